@@ -1,2 +1,3 @@
 pub mod Bits
 pub mod BitsOfBytes
+pub mod FramePlaces
