@@ -1,3 +1,4 @@
 pub mod Bits
 pub mod BitsOfBytes
 pub mod FramePlaces
+pub mod FrameReads

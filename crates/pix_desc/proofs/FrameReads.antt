@@ -1,0 +1,71 @@
+-- Which bits of a pixel a descriptor's components read.
+use Rattle.std.proofs.Common.{◌≡◌, ℕ, ◌+◌, ◌*◌, ◌<◌, ◌≤◌, ◌-◌, ⊎_elim, Bool, true, false, ◌&&◌, pos, List, length, get_or, take, nat_eq, eqb-true, eq-eqb, length-take-le, get_or-take, sym, refl, ap, subst, ◌∙◌, arith}
+use Rattle.std.specs.List.{range_with_len, list_any}
+use Rattle.std.specs.Ordering.{int_eq}
+use Rattle.std.proofs.lemmas.Bool.{cases_lt, and_parts, and_from}
+use Rattle.std.proofs.lemmas.Bool.Decides.{Decides-int_eq}
+use Rattle.std.proofs.lemmas.List.{get_or_past, get_or_default}
+use Rattle.std.proofs.lemmas.List.FromFn.{length-range_with_len, get_or-range_with_len}
+use Rattle.std.proofs.lemmas.List.Folds.{Any-from_list_any, list_any_at}
+use Rattle.pix_desc.specs.declared.desc.Comp.{Comp}
+use Rattle.pix_desc.specs.declared.desc.Desc.{Desc}
+use Rattle.pix_desc.specs.Component.{no_component, components, component_of, bit_place, reads_bit}
+use Rattle.pix_desc.specs.Frame.{reads_pixel_bit}
+use Rattle.pix_desc.specs.Layouts.{IsLaidOut}
+
+-- bit i of component j is bit k of a pixel in the plane
+pub record IsReadBy (desc : Desc) (plane k j i : ℕ) : Type 0 where
+  pub listed : j < desc.count
+  pub there : (component_of desc j).plane ≡ plane
+  pub inside : i < (component_of desc j).depth
+  pub at : bit_place desc (component_of desc j) i ≡ pos k
+
+-- the components that count are in the descriptor, since they have bits
+in_descriptor : (desc : Desc) (j : ℕ) → IsLaidOut desc → j < desc.count → j < length desc.comps
+in_descriptor desc j laid listed =
+    ⊎_elim
+    (λ inside. inside)
+    (λ past.
+      let none : (component_of desc j).depth ≡ 0 = ap (λ c. c.depth) (get_or_past desc.comps j no_component past) in
+      absurd (omega (arith, none, laid.deep j listed)))
+    (cases_lt j (length desc.comps))
+
+length-components : (desc : Desc) → IsLaidOut desc → length (components desc) ≡ desc.count
+length-components desc laid =
+    let last : desc.count - 1 < length desc.comps = in_descriptor desc (desc.count - 1) laid (omega (arith, laid.some)) in
+    length-take-le desc.count desc.comps (omega arith)
+
+component_at : (desc : Desc) (j : ℕ) (d : Comp) → IsLaidOut desc → j < desc.count → get_or (components desc) j d ≡ component_of desc j
+component_at desc j d laid listed = get_or-take desc.count desc.comps j d listed ∙ get_or_default desc.comps j d no_component (in_descriptor desc j laid listed)
+
+-- what a component reads, and where
+read_place : (desc : Desc) (c : Comp) (k : ℕ) → reads_bit desc c (pos k) ≡ true → (i : ℕ) × (i < c.depth) × (bit_place desc c i ≡ pos k)
+read_place desc c k reads =
+    let any = Any-from_list_any (λ i. int_eq (bit_place desc c i) (pos k)) (range_with_len 0 c.depth) reads in
+    let inside : any.0 < c.depth = omega (arith, any.2, length-range_with_len 0 c.depth) in
+    let index : any.1 ≡ 0 + any.0 = sym any.3 ∙ get_or-range_with_len 0 c.depth any.0 any.1 inside in
+    (any.1, omega (arith, index), (Decides-int_eq (bit_place desc c any.1) (pos k)).0 any.4)
+
+place_reads : (desc : Desc) (c : Comp) (k i : ℕ) → i < c.depth → bit_place desc c i ≡ pos k → reads_bit desc c (pos k) ≡ true
+place_reads desc c k i inside at =
+    let index : get_or (range_with_len 0 c.depth) i 0 ≡ i = get_or-range_with_len 0 c.depth i 0 inside ∙ (let e : 0 + i ≡ i = omega arith in e) in
+    list_any_at (λ t. int_eq (bit_place desc c t) (pos k)) (range_with_len 0 c.depth) i 0 (omega (arith, length-range_with_len 0 c.depth))
+    ((Decides-int_eq (bit_place desc c (get_or (range_with_len 0 c.depth) i 0)) (pos k)).1 (ap (bit_place desc c) index ∙ at))
+
+-- a bit that is read is a bit of some component
+pub read_by : (desc : Desc) (plane k : ℕ) → IsLaidOut desc → reads_pixel_bit desc plane k ≡ true → (j : ℕ) × (i : ℕ) × IsReadBy desc plane k j i
+read_by desc plane k laid reads =
+    let any = Any-from_list_any (λ c. nat_eq c.plane plane && reads_bit desc c (pos k)) (components desc) reads in
+    let listed : any.0 < desc.count = omega (arith, any.2, length-components desc laid) in
+    let is : any.1 ≡ component_of desc any.0 = sym any.3 ∙ component_at desc any.0 any.1 laid listed in
+    let both = and_parts (nat_eq any.1.plane plane) (reads_bit desc any.1 (pos k)) any.4 in
+    let place = read_place desc (component_of desc any.0) k (subst (λ c. reads_bit desc c (pos k) ≡ true) is both.1) in
+    (any.0, place.0, record { listed = listed; there = ap (λ c. c.plane) (sym is) ∙ eqb-true any.1.plane plane both.0; inside = place.1; at = place.2 })
+
+-- a bit of a component is read
+pub reads_from : (desc : Desc) (plane k j i : ℕ) → IsLaidOut desc → IsReadBy desc plane k j i → reads_pixel_bit desc plane k ≡ true
+reads_from desc plane k j i laid by =
+    let is : get_or (components desc) j (component_of desc j) ≡ component_of desc j = component_at desc j (component_of desc j) laid by.listed in
+    list_any_at (λ c. nat_eq c.plane plane && reads_bit desc c (pos k)) (components desc) j (component_of desc j) (omega (arith, by.listed, length-components desc laid))
+    (subst (λ c. (nat_eq c.plane plane && reads_bit desc c (pos k)) ≡ true) (sym is)
+      (and_from (nat_eq (component_of desc j).plane plane) (reads_bit desc (component_of desc j) (pos k)) (eq-eqb (component_of desc j).plane plane by.there) (place_reads desc (component_of desc j) k i by.inside by.at)))
