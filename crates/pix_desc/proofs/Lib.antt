@@ -2,3 +2,4 @@ pub mod Bits
 pub mod BitsOfBytes
 pub mod FramePlaces
 pub mod FrameReads
+pub mod FramePixel
