@@ -3,3 +3,4 @@ pub mod BitsOfBytes
 pub mod FramePlaces
 pub mod FrameReads
 pub mod FramePixel
+pub mod FramePlanes
