@@ -87,3 +87,31 @@ find_byte desc width height at below =
     let row = width * step in
     let parts = place_in_plane k height width step found.3 in
     (p, k % row / step, k / row, k % row % step, record { plane = found.2; column = parts.1; row = parts.0; byte = parts.2; place = omega (arith, found.4, parts.3) })
+
+-- byte k of a plane, where it is byte o of the pixel at x and y
+plane_byte_is : (desc : Desc) (width : ℕ) (value : ℕ → ℕ → ℕ → ℕ) (p x y o : ℕ) → x < width → o < plane_step desc p
+    → plane_byte desc width value p (y * row_length desc width p + (x * plane_step desc p + o)) ≡ pixel_byte desc p (λ j. value j x y) o
+plane_byte_is desc width value p x y o column byte =
+    let step = plane_step desc p in
+    let row = row_length desc width p in
+    let rest : x * step + o < row = omega (arith, mul-add-lt x step o width column byte) in
+    let pixel = λ (k r : ℕ). pixel_byte desc p (λ j. value j (r / step) (k / row)) (r % step) in
+    ap (λ r. pixel (y * row + (x * step + o)) r) (mod-mul-add y row (x * step + o) rest)
+    ∙ ap (λ q. pixel_byte desc p (λ j. value j ((x * step + o) / step) q) ((x * step + o) % step)) (div-mul-add y row (x * step + o) rest)
+    ∙ ap (λ q. pixel_byte desc p (λ j. value j q y) ((x * step + o) % step)) (div-mul-add x step o byte)
+    ∙ ap (pixel_byte desc p (λ j. value j x y)) (mod-mul-add x step o byte)
+
+-- each byte of the planes that are made of values
+pub byte_of_planes : (desc : Desc) (width height : ℕ) (value : ℕ → ℕ → ℕ → ℕ) (at p x y o : ℕ) → IsByteOf desc width height at p x y o
+    → get_or (planes_of desc width height value 4) at 0 ≡ pixel_byte desc p (λ j. value j x y) o
+unfolding row_start
+byte_of_planes desc width height value at p x y o is =
+    let step = plane_step desc p in
+    let row = row_length desc width p in
+    let k = y * row + (x * step + o) in
+    let rest : x * step + o < row = omega (arith, mul-add-lt x step o width is.column is.byte) in
+    let within : k < plane_length desc width height p = omega (arith, mul-add-lt y row (x * step + o) height is.row rest) in
+    let place : at ≡ plane_start desc width height p + k = omega (arith, is.place) in
+    ap (λ t. get_or (planes_of desc width height value 4) t 0) place
+    ∙ plane_at desc width height value 4 p k is.plane within
+    ∙ plane_byte_is desc width value p x y o is.column is.byte
