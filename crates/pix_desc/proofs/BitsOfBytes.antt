@@ -14,6 +14,12 @@ bits_of narrow = if narrow then 8 else 16
 abbrev pub byte_of : Bool → Bool → ℕ → ℕ
 byte_of narrow be m = if be && not narrow then 1 - m / 8 else m / 8
 
+pub byte_of_below : (narrow be : Bool) (m : ℕ) → m < bits_of narrow → byte_of narrow be m < (if narrow then 1 else 2)
+byte_of_below true true m inside = omega arith
+byte_of_below true false m inside = omega arith
+byte_of_below false true m inside = omega arith
+byte_of_below false false m inside = omega arith
+
 -- the number of a first and a second byte
 abbrev pub number_of : Bool → Bool → ℕ → ℕ → ℕ
 number_of narrow be first second = if narrow then first else (if be then 256 * first + second else first + 256 * second)
