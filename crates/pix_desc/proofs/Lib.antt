@@ -4,3 +4,5 @@ pub mod FramePlaces
 pub mod FrameReads
 pub mod FramePixel
 pub mod FramePlanes
+pub mod FrameExists
+pub mod FrameOnly

@@ -1,0 +1,53 @@
+-- No two raw frames say the same values.
+use Rattle.std.proofs.Common.{◌≡◌, ℕ, ◌+◌, ◌*◌, ◌^◌, ◌<◌, ⊎_elim, Bool, true, false, List, All, length, get_or, ext_get_or, sym, refl, ap, subst, ◌∙◌, arith}
+use Rattle.std.specs.Int.{bit_at}
+use Rattle.std.proofs.lemmas.Bool.{cases_Bool}
+use Rattle.std.proofs.lemmas.Nat.Bits.{same_from_bits_below}
+use Rattle.pix_desc.specs.declared.desc.Desc.{Desc}
+use Rattle.pix_desc.specs.Component.{component_of, bit_of}
+use Rattle.pix_desc.specs.Frame.{plane_step, plane_start, row_start, frame_component, frame_of, reads_pixel_bit, IsFrameOf, FitDepths}
+use Rattle.pix_desc.specs.Layouts.{IsLaidOut}
+use Rattle.pix_desc.proofs.FramePlaces.{byte_below, frame_component_below}
+use Rattle.pix_desc.proofs.FrameReads.{IsReadBy, read_by, frame_bit_by}
+use Rattle.pix_desc.proofs.FramePlanes.{IsByteOf, find_byte}
+use Rattle.pix_desc.proofs.FrameExists.{bit_of_byte, frame_length_is, frame_says}
+
+module _ (desc : Desc) (width height : ℕ) (value : ℕ → ℕ → ℕ → ℕ) (laid : IsLaidOut desc) where
+  -- a bit of a pixel is the same in both
+  same_bit : (a b : List ℕ) → IsFrameOf desc width height value a → IsFrameOf desc width height value b → (p x y o t : ℕ) → x < width → y < height → o < plane_step desc p → t < 8
+      → let at = row_start desc width height p y + x * plane_step desc p + o in bit_at (get_or a at 0) t ≡ bit_at (get_or b at 0) t
+  same_bit a b first second p x y o t column row byte bit =
+      let start = row_start desc width height p y + x * plane_step desc p in
+      let k = 8 * o + t in
+      let same : bit_of a (8 * start + k) ≡ bit_of b (8 * start + k) =
+          ⊎_elim
+          (λ (read : reads_pixel_bit desc p k ≡ true).
+            let by = read_by desc p k laid read in
+            let is : IsReadBy desc p k by.0 by.1 = by.2 in
+            sym (frame_bit_by desc width height a p x y k by.0 by.1 laid first.bytes is)
+            ∙ ap (λ n. bit_at n by.1) (first.reads by.0 x y is.listed column row ∙ sym (second.reads by.0 x y is.listed column row))
+            ∙ frame_bit_by desc width height b p x y k by.0 by.1 laid second.bytes is)
+          (λ (unread : reads_pixel_bit desc p k ≡ false). first.spare p x y k column row (omega arith) unread ∙ sym (second.spare p x y k column row (omega arith) unread))
+          (cases_Bool (reads_pixel_bit desc p k)) in
+      sym (bit_of_byte a start o t bit) ∙ same ∙ bit_of_byte b start o t bit
+
+  -- two raw frames of the same values are one
+  pub same_frames : (a b : List ℕ) → desc.palette ≡ false → IsFrameOf desc width height value a → IsFrameOf desc width height value b → a ≡ b
+  same_frames a b none first second =
+      ext_get_or 0 a b (first.size ∙ sym second.size) (λ i inside.
+        let found = find_byte desc width height i (omega (arith, inside, first.size, frame_length_is desc width height none)) in
+        let is : IsByteOf desc width height i found.0 found.1 found.2 found.3 = found.4 in
+        same_from_bits_below 8 (get_or a i 0) (get_or b i 0) (byte_below a i first.bytes) (byte_below b i second.bytes) (λ t bit.
+          ap (λ at. bit_at (get_or a at 0) t) is.place
+          ∙ same_bit a b first second found.0 found.1 found.2 found.3 t is.column is.row is.byte bit
+          ∙ ap (λ at. bit_at (get_or b at 0) t) (sym is.place)))
+
+  -- what a frame says fits the depths
+  pub fit_from_frame : (frame : List ℕ) → IsFrameOf desc width height value frame → FitDepths desc width height value
+  fit_from_frame frame says j x y listed column row =
+      subst (λ v. v < 2 ^ (component_of desc j).depth) (says.reads j x y listed column row) (frame_component_below desc width height frame j x y)
+
+  -- a raw frame of values is the one that is made of them
+  pub only_frame_lem : (frame : List ℕ) → desc.palette ≡ false → IsFrameOf desc width height value frame → frame ≡ frame_of desc width height value
+  only_frame_lem frame none says =
+      same_frames frame (frame_of desc width height value) none says (frame_says desc width height value laid (fit_from_frame frame says) none)
