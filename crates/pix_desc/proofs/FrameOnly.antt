@@ -22,7 +22,7 @@ module _ (desc : Desc) (width height : ℕ) (value : ℕ → ℕ → ℕ → ℕ
       let same : bit_of a (8 * start + k) ≡ bit_of b (8 * start + k) =
           ⊎_elim
           (λ (read : reads_pixel_bit desc p k ≡ true).
-            let by = read_by desc p k laid read in
+            let by = read_by desc p k read in
             let is : IsReadBy desc p k by.0 by.1 = by.2 in
             sym (frame_bit_by desc width height a p x y k by.0 by.1 laid first.bytes is)
             ∙ ap (λ n. bit_at n by.1) (first.reads by.0 x y is.listed column row ∙ sym (second.reads by.0 x y is.listed column row))

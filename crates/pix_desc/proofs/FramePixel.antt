@@ -106,5 +106,5 @@ module _ (desc : Desc) (laid : IsLaidOut desc) (plane : ℕ) (values : ℕ → �
   spare_bit k b below unread =
       bit_at_sum_none (part_in desc plane values k) desc.count (parts_share_none k) b
       (λ j listed. ⊎_elim (λ none. none)
-        (λ (one : (i : ℕ) × IsReadBy desc plane (8 * k + b) j i). absurd (true≢false (sym (reads_from desc plane (8 * k + b) j one.0 laid one.1) ∙ unread)))
+        (λ (one : (i : ℕ) × IsReadBy desc plane (8 * k + b) j i). absurd (true≢false (sym (reads_from desc plane (8 * k + b) j one.0 one.1) ∙ unread)))
         (part_in_cases k b j below listed))

@@ -13,6 +13,7 @@ use Rattle.pix_desc.specs.declared.desc.Desc.{Desc}
 use Rattle.pix_desc.specs.Component.{no_component, components, component_of, is_narrow, bytes_read, first_byte, count_of, bit_place, reads_bit, bit_of}
 use Rattle.pix_desc.specs.Frame.{plane_step, step_in, row_start, frame_component, reads_pixel_bit}
 use Rattle.pix_desc.specs.Layouts.{IsLaidOut}
+use Rattle.pix_desc.proofs.Components.{get_or-components, length-components}
 use Rattle.pix_desc.proofs.BitsOfBytes.{bits_of, byte_of, byte_of_below}
 use Rattle.pix_desc.proofs.FramePlaces.{place_of, same_place, fits_bits, frame_bit}
 
@@ -22,24 +23,6 @@ pub record IsReadBy (desc : Desc) (plane k j i : ℕ) : Type 0 where
   pub there : (component_of desc j).plane ≡ plane
   pub inside : i < (component_of desc j).depth
   pub at : bit_place desc (component_of desc j) i ≡ pos k
-
--- the components that count are in the descriptor, since they have bits
-in_descriptor : (desc : Desc) (j : ℕ) → IsLaidOut desc → j < desc.count → j < length desc.comps
-in_descriptor desc j laid listed =
-    ⊎_elim
-    (λ inside. inside)
-    (λ past.
-      let none : (component_of desc j).depth ≡ 0 = ap (λ c. c.depth) (get_or_past desc.comps j no_component past) in
-      absurd (omega (arith, none, laid.deep j listed)))
-    (cases_lt j (length desc.comps))
-
-length-components : (desc : Desc) → IsLaidOut desc → length (components desc) ≡ desc.count
-length-components desc laid =
-    let last : desc.count - 1 < length desc.comps = in_descriptor desc (desc.count - 1) laid (omega (arith, laid.some)) in
-    length-take-le desc.count desc.comps (omega arith)
-
-component_at : (desc : Desc) (j : ℕ) (d : Comp) → IsLaidOut desc → j < desc.count → get_or (components desc) j d ≡ component_of desc j
-component_at desc j d laid listed = get_or-take desc.count desc.comps j d listed ∙ get_or_default desc.comps j d no_component (in_descriptor desc j laid listed)
 
 -- what a component reads, and where
 read_place : (desc : Desc) (c : Comp) (k : ℕ) → reads_bit desc c (pos k) ≡ true → (i : ℕ) × (i < c.depth) × (bit_place desc c i ≡ pos k)
@@ -56,20 +39,20 @@ place_reads desc c k i inside at =
     ((Decides-int_eq (bit_place desc c (get_or (range_with_len 0 c.depth) i 0)) (pos k)).1 (ap (bit_place desc c) index ∙ at))
 
 -- a bit that is read is a bit of some component
-pub read_by : (desc : Desc) (plane k : ℕ) → IsLaidOut desc → reads_pixel_bit desc plane k ≡ true → (j : ℕ) × (i : ℕ) × IsReadBy desc plane k j i
-read_by desc plane k laid reads =
+pub read_by : (desc : Desc) (plane k : ℕ) → reads_pixel_bit desc plane k ≡ true → (j : ℕ) × (i : ℕ) × IsReadBy desc plane k j i
+read_by desc plane k reads =
     let any = Any-from_list_any (λ c. nat_eq c.plane plane && reads_bit desc c (pos k)) (components desc) reads in
-    let listed : any.0 < desc.count = omega (arith, any.2, length-components desc laid) in
-    let is : any.1 ≡ component_of desc any.0 = sym any.3 ∙ component_at desc any.0 any.1 laid listed in
+    let listed : any.0 < desc.count = omega (arith, any.2, length-components desc) in
+    let is : any.1 ≡ component_of desc any.0 = sym any.3 ∙ get_or-components desc any.0 any.1 listed in
     let both = and_parts (nat_eq any.1.plane plane) (reads_bit desc any.1 (pos k)) any.4 in
     let place = read_place desc (component_of desc any.0) k (subst (λ c. reads_bit desc c (pos k) ≡ true) is both.1) in
     (any.0, place.0, record { listed = listed; there = ap (λ c. c.plane) (sym is) ∙ eqb-true any.1.plane plane both.0; inside = place.1; at = place.2 })
 
 -- a bit of a component is read
-pub reads_from : (desc : Desc) (plane k j i : ℕ) → IsLaidOut desc → IsReadBy desc plane k j i → reads_pixel_bit desc plane k ≡ true
-reads_from desc plane k j i laid by =
-    let is : get_or (components desc) j (component_of desc j) ≡ component_of desc j = component_at desc j (component_of desc j) laid by.listed in
-    list_any_at (λ c. nat_eq c.plane plane && reads_bit desc c (pos k)) (components desc) j (component_of desc j) (omega (arith, by.listed, length-components desc laid))
+pub reads_from : (desc : Desc) (plane k j i : ℕ) → IsReadBy desc plane k j i → reads_pixel_bit desc plane k ≡ true
+reads_from desc plane k j i by =
+    let is : get_or (components desc) j (component_of desc j) ≡ component_of desc j = get_or-components desc j (component_of desc j) by.listed in
+    list_any_at (λ c. nat_eq c.plane plane && reads_bit desc c (pos k)) (components desc) j (component_of desc j) (omega (arith, by.listed, length-components desc))
     (subst (λ c. (nat_eq c.plane plane && reads_bit desc c (pos k)) ≡ true) (sym is)
       (and_from (nat_eq (component_of desc j).plane plane) (reads_bit desc (component_of desc j) (pos k)) (eq-eqb (component_of desc j).plane plane by.there) (place_reads desc (component_of desc j) k i by.inside by.at)))
 
@@ -109,8 +92,8 @@ plane_below desc plane laid some =
     (λ below. below)
     (λ (past : 4 ≤ plane).
       let none = step_none plane (components desc) (λ i d inside same.
-        let listed : i < desc.count = omega (arith, inside, length-components desc laid) in
-        let is : (component_of desc i).plane ≡ plane = ap (λ c. c.plane) (sym (component_at desc i d laid listed)) ∙ same in
+        let listed : i < desc.count = omega (arith, inside, length-components desc) in
+        let is : (component_of desc i).plane ≡ plane = ap (λ c. c.plane) (sym (get_or-components desc i d listed)) ∙ same in
         absurd (omega (arith, is, laid.plane i listed))) in
       absurd (omega (arith, none)))
     (cases_lt plane 4)

@@ -1,3 +1,5 @@
+pub mod Components
+pub mod Valid
 pub mod Bits
 pub mod BitsOfBytes
 pub mod FramePlaces
