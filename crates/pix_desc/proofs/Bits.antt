@@ -65,6 +65,15 @@ sum_below k a b none p q = omega (arith, sum_is_or a b none, or_lt k a b p q)
 abbrev pub sum_from : (ℕ → ℕ) → ℕ → ℕ → ℕ
 sum_from f a k = sum_by f (range_with_len a k)
 
+sum_more : (f : ℕ → ℕ) (a k : ℕ) → sum_from f a (suc k) ≡ f a + sum_from f (a + 1) k
+sum_more f a k = sum_by-cons f a (range_with_len (a + 1) k)
+
+-- sums of the same numbers
+pub sum_from_same : (f g : ℕ → ℕ) (a k : ℕ) → ((j : ℕ) → a ≤ j → j < a + k → f j ≡ g j) → sum_from f a k ≡ sum_from g a k
+sum_from_same f g a zero same = refl
+sum_from_same f g a (suc k) same =
+    sum_more f a k ∙ (let here = same a (omega arith) (omega arith) in let rest = sum_from_same f g (a + 1) k (λ j low high. same j (omega arith) (omega arith)) in omega arith) ∙ sym (sum_more g a k)
+
 -- a bit is 0, or bit b of f j for one j of the k numbers from a on
 abbrev IsBitOf : (ℕ → ℕ) → ℕ → ℕ → ℕ → ℕ → Type 0
 IsBitOf f a k b bit = (bit ≡ 0) ⊎ ((j : ℕ) × (a ≤ j) × (j < a + k) × (bit ≡ bit_at (f j) b))
@@ -91,16 +100,13 @@ module _ (f : ℕ → ℕ) (n : ℕ) (apart : (i j : ℕ) → i < n → j < n �
         (eq-zero-or-pos (bit_at (f a) b)))
       cases
 
-  sum_more : (a k : ℕ) → sum_from f a (suc k) ≡ f a + sum_from f (a + 1) k
-  sum_more a k = sum_by-cons f a (range_with_len (a + 1) k)
-
   -- a bit of the sum is a bit of one of the numbers, or 0
   pub bit_at_sum_cases : (a k b : ℕ) → a + k ≤ n → IsBitOf f a k b (bit_at (sum_from f a k) b)
   bit_at_sum_cases a zero b within = inl (bit_at-zero b)
   bit_at_sum_cases a (suc k) b within =
       let rest = λ (c : ℕ). bit_at_sum_cases (a + 1) k c (omega arith) in
       subst (IsBitOf f a (suc k) b)
-      (sym (ap (λ s. bit_at s b) (sum_more a k) ∙ bit_at_sum (f a) (sum_from f (a + 1) k) b (shares_none a k within rest)))
+      (sym (ap (λ s. bit_at s b) (sum_more f a k) ∙ bit_at_sum (f a) (sum_from f (a + 1) k) b (shares_none a k within rest)))
       (pick a k b (bit_at (sum_from f (a + 1) k) b) (omega arith) within (rest b))
 
   tail_shares_none : (a k : ℕ) → a + suc k ≤ n → SharesNoBit (f a) (sum_from f (a + 1) k)
@@ -109,7 +115,7 @@ module _ (f : ℕ → ℕ) (n : ℕ) (apart : (i j : ℕ) → i < n → j < n �
   bit_at_sum_has : (a k b j : ℕ) → a + k ≤ n → a ≤ j → j < a + k → bit_at (f j) b ≤ bit_at (sum_from f a k) b
   bit_at_sum_has a zero b j within low high = absurd (omega arith)
   bit_at_sum_has a (suc k) b j within low high =
-      let split : bit_at (sum_from f a (suc k)) b ≡ max (bit_at (f a) b) (bit_at (sum_from f (a + 1) k) b) = ap (λ s. bit_at s b) (sum_more a k) ∙ bit_at_sum (f a) (sum_from f (a + 1) k) b (tail_shares_none a k within) in
+      let split : bit_at (sum_from f a (suc k)) b ≡ max (bit_at (f a) b) (bit_at (sum_from f (a + 1) k) b) = ap (λ s. bit_at s b) (sum_more f a k) ∙ bit_at_sum (f a) (sum_from f (a + 1) k) b (tail_shares_none a k within) in
       ⊎_elim
       (λ (here : a ≡ j). omega (arith, ap (λ i. bit_at (f i) b) here))
       (λ (there : a ≢ j). omega (arith, bit_at_sum_has (a + 1) k b j (omega arith) (omega arith) (omega arith)))
@@ -135,5 +141,5 @@ module _ (f : ℕ → ℕ) (n : ℕ) (apart : (i j : ℕ) → i < n → j < n �
   pub sum_from_below : (w a k : ℕ) → a + k ≤ n → ((j : ℕ) → j < n → f j < 2 ^ w) → sum_from f a k < 2 ^ w
   sum_from_below w a zero within small = pow_pos w
   sum_from_below w a (suc k) within small =
-      subst (λ s. s < 2 ^ w) (sym (sum_more a k))
+      subst (λ s. s < 2 ^ w) (sym (sum_more f a k))
       (sum_below w (f a) (sum_from f (a + 1) k) (tail_shares_none a k within) (small a (omega arith)) (sum_from_below w (a + 1) k (omega arith) small))

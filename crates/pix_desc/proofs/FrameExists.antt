@@ -9,7 +9,7 @@ use Rattle.pix_desc.specs.Frame.{plane_step, plane_start, row_start, frame_lengt
 use Rattle.pix_desc.specs.Layouts.{IsLaidOut}
 use Rattle.pix_desc.proofs.FramePlaces.{place_of, bit_place_is, frame_component_below}
 use Rattle.pix_desc.proofs.FrameReads.{IsReadBy, read_inside, frame_bit_by, plane_below}
-use Rattle.pix_desc.proofs.FramePixel.{pixel_byte_below, pixel_bit, spare_bit}
+use Rattle.pix_desc.proofs.FramePixel.{pixel_byte_below, pixel_bit_at, spare_bit_at}
 use Rattle.pix_desc.proofs.FramePlanes.{IsByteOf, find_byte, byte_of_planes, length-planes_of}
 
 -- bit b of byte o of a pixel is a bit of that byte of the frame
@@ -24,11 +24,11 @@ unfolding frame_length
 frame_length_is desc width height none =
     ap (λ (b : Bool). plane_start desc width height 4 + (if b then 1024 else 0)) none ∙ add-zero (plane_start desc width height 4)
 
-length-frame_of : (desc : Desc) (width height : ℕ) (value : ℕ → ℕ → ℕ → ℕ) → length (frame_of desc width height value) ≡ plane_start desc width height 4
+pub length-frame_of : (desc : Desc) (width height : ℕ) (value : ℕ → ℕ → ℕ → ℕ) → length (frame_of desc width height value) ≡ plane_start desc width height 4
 unfolding frame_of
 length-frame_of desc width height value = length-planes_of desc width height value 4
 
-byte_of_frame : (desc : Desc) (width height : ℕ) (value : ℕ → ℕ → ℕ → ℕ) (at p x y o : ℕ) → IsByteOf desc width height at p x y o
+pub byte_of_frame : (desc : Desc) (width height : ℕ) (value : ℕ → ℕ → ℕ → ℕ) (at p x y o : ℕ) → IsByteOf desc width height at p x y o
     → get_or (frame_of desc width height value) at 0 ≡ pixel_byte desc p (λ j. value j x y) o
 unfolding frame_of
 byte_of_frame desc width height value at p x y o is = byte_of_planes desc width height value at p x y o is
@@ -47,12 +47,15 @@ module _ (desc : Desc) (width height : ℕ) (value : ℕ → ℕ → ℕ → ℕ
       ∙ bit_of_byte frame start (k / 8) (k % 8) (omega arith)
       ∙ ap (λ n. bit_at n (k % 8)) (byte_of_frame desc width height value (start + k / 8) p x y (k / 8) is)
 
+  byte_of_frame_below : (at p x y o : ℕ) → IsByteOf desc width height at p x y o → get_or (frame_of desc width height value) at 0 < 256
+  byte_of_frame_below at p x y o is =
+      let small = pixel_byte_below desc laid p (λ j. value j x y) (λ j listed. fit j x y listed is.column is.row) o in
+      omega (arith, small, byte_of_frame desc width height value at p x y o is)
+
   frame_bytes : All (λ byte. byte < 256) (frame_of desc width height value)
   frame_bytes = All-from_get_or (λ byte. byte < 256) (frame_of desc width height value) 0 (λ i inside.
       let found = find_byte desc width height i (omega (arith, inside, length-frame_of desc width height value)) in
-      let is : IsByteOf desc width height i found.0 found.1 found.2 found.3 = found.4 in
-      subst (λ byte. byte < 256) (sym (byte_of_frame desc width height value i found.0 found.1 found.2 found.3 is))
-      (pixel_byte_below desc laid found.0 (λ j. value j found.1 found.2) (λ j listed. fit j found.1 found.2 listed is.column is.row) found.3))
+      byte_of_frame_below i found.0 found.1 found.2 found.3 found.4)
 
   frame_reads : (j x y : ℕ) → j < desc.count → x < width → y < height → frame_component desc width height (frame_of desc width height value) j x y ≡ value j x y
   frame_reads j x y listed column row =
@@ -63,18 +66,14 @@ module _ (desc : Desc) (width height : ℕ) (value : ℕ → ℕ → ℕ → ℕ
       (λ i inside.
         let k = place_of desc c (c.shift + i) in
         let by : IsReadBy desc c.plane k j i = record { listed = listed; there = refl; inside = inside; at = bit_place_is desc c i (laid.first j listed) } in
-        let split : k ≡ 8 * (k / 8) + k % 8 = omega arith in
         frame_bit_by desc width height frame c.plane x y k j i laid frame_bytes by
         ∙ pixel_at c.plane x y k column row (read_inside desc c.plane k j i laid by)
-        ∙ pixel_bit desc laid c.plane (λ t. value t x y) (λ t there. fit t x y there column row) (k / 8) (k % 8) j i (omega arith)
-          (subst (λ t. IsReadBy desc c.plane t j i) split by))
+        ∙ pixel_bit_at desc laid c.plane (λ t. value t x y) (λ t there. fit t x y there column row) k j i by)
 
   frame_spare : (plane x y k : ℕ) → x < width → y < height → k < 8 * plane_step desc plane → reads_pixel_bit desc plane k ≡ false
       → bit_of (frame_of desc width height value) (8 * (row_start desc width height plane y + x * plane_step desc plane) + k) ≡ 0
   frame_spare plane x y k column row inside unread =
-      let split : k ≡ 8 * (k / 8) + k % 8 = omega arith in
-      pixel_at plane x y k column row inside
-      ∙ spare_bit desc laid plane (λ j. value j x y) (λ j listed. fit j x y listed column row) (k / 8) (k % 8) (omega arith) (subst (λ t. reads_pixel_bit desc plane t ≡ false) split unread)
+      pixel_at plane x y k column row inside ∙ spare_bit_at desc laid plane (λ j. value j x y) (λ j listed. fit j x y listed column row) k unread
 
   pub frame_says : desc.palette ≡ false → IsFrameOf desc width height value (frame_of desc width height value)
   frame_says none = record {

@@ -95,16 +95,25 @@ module _ (desc : Desc) (laid : IsLaidOut desc) (plane : ℕ) (values : ℕ → �
   pub pixel_byte_below : (k : ℕ) → pixel_byte desc plane values k < 256
   pixel_byte_below k = sum_from_below (part_in desc plane values k) desc.count (parts_share_none k) 8 0 desc.count (omega arith) (part_in_below k)
 
-  -- each bit that a component reads is a bit of its value
-  pub pixel_bit : (k b j i : ℕ) → b < 8 → IsReadBy desc plane (8 * k + b) j i → bit_at (pixel_byte desc plane values k) b ≡ bit_at (values j) i
+  pixel_bit : (k b j i : ℕ) → b < 8 → IsReadBy desc plane (8 * k + b) j i → bit_at (pixel_byte desc plane values k) b ≡ bit_at (values j) i
   pixel_bit k b j i below by =
       bit_at_sum_only (part_in desc plane values k) desc.count (parts_share_none k) b j by.listed (λ other listed differ. part_in_apart k b j i other below by listed differ)
       ∙ bit_at_part_in k b j i below by
 
-  -- each bit that no component reads is 0
-  pub spare_bit : (k b : ℕ) → b < 8 → reads_pixel_bit desc plane (8 * k + b) ≡ false → bit_at (pixel_byte desc plane values k) b ≡ 0
+  spare_bit : (k b : ℕ) → b < 8 → reads_pixel_bit desc plane (8 * k + b) ≡ false → bit_at (pixel_byte desc plane values k) b ≡ 0
   spare_bit k b below unread =
       bit_at_sum_none (part_in desc plane values k) desc.count (parts_share_none k) b
       (λ j listed. ⊎_elim (λ none. none)
         (λ (one : (i : ℕ) × IsReadBy desc plane (8 * k + b) j i). absurd (true≢false (sym (reads_from desc plane (8 * k + b) j one.0 one.1) ∙ unread)))
         (part_in_cases k b j below listed))
+
+  split : (k : ℕ) → k ≡ 8 * (k / 8) + k % 8
+  split k = omega arith
+
+  -- each bit that a component reads is a bit of its value
+  pub pixel_bit_at : (k j i : ℕ) → IsReadBy desc plane k j i → bit_at (pixel_byte desc plane values (k / 8)) (k % 8) ≡ bit_at (values j) i
+  pixel_bit_at k j i by = pixel_bit (k / 8) (k % 8) j i (omega arith) (subst (λ t. IsReadBy desc plane t j i) (split k) by)
+
+  -- each bit that no component reads is 0
+  pub spare_bit_at : (k : ℕ) → reads_pixel_bit desc plane k ≡ false → bit_at (pixel_byte desc plane values (k / 8)) (k % 8) ≡ 0
+  spare_bit_at k unread = spare_bit (k / 8) (k % 8) (omega arith) (subst (λ t. reads_pixel_bit desc plane t ≡ false) (split k) unread)
