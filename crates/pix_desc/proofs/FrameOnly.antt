@@ -51,8 +51,8 @@ module _ (desc : Desc) (width height : ℕ) (value : ℕ → ℕ → ℕ → ℕ
       subst (λ v. v < 2 ^ (component_of desc j).depth) (says.reads j x y listed column row) (frame_component_below desc width height frame j x y)
 
   -- a raw frame of values is the one that is made of them
-  pub only_frame_lem : (frame : List ℕ) → desc.palette ≡ false → IsFrameOf desc width height value frame → frame ≡ frame_of desc width height value
-  only_frame_lem frame none says =
+  pub only_frame : (frame : List ℕ) → desc.palette ≡ false → IsFrameOf desc width height value frame → frame ≡ frame_of desc width height value
+  only_frame frame none says =
       same_frames frame (frame_of desc width height value) none says (frame_says desc width height value laid (fit_from_frame frame says) none)
 
 -- a byte of a pixel depends only on the values of the pixel's components

@@ -8,3 +8,5 @@ pub mod FramePixel
 pub mod FramePlanes
 pub mod FrameExists
 pub mod FrameOnly
+pub mod FrameLaws
+pub mod FrameValues

@@ -87,3 +87,8 @@ FitDepths desc width height value = (j x y : ℕ) → j < desc.count → x < wid
 -- the two give the same values within the frame
 abbrev pub AgreeWithin : Desc → ℕ → ℕ → (ℕ → ℕ → ℕ → ℕ) → (ℕ → ℕ → ℕ → ℕ) → Type 0
 AgreeWithin desc width height value other = (j x y : ℕ) → j < desc.count → x < width → y < height → value j x y ≡ other j x y
+
+-- Values have exactly one raw frame: `frame_of` makes it where they fit the depths, and no other list of bytes says them.
+pub record HasOneFrame (desc : Desc) (width height : ℕ) (value : ℕ → ℕ → ℕ → ℕ) : Type 0 where
+  pub says : FitDepths desc width height value → IsFrameOf desc width height value (frame_of desc width height value)
+  pub only : (frame : List ℕ) → IsFrameOf desc width height value frame → frame ≡ frame_of desc width height value
