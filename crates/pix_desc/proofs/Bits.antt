@@ -39,11 +39,11 @@ bit_at_shifted_cases v shift depth m small =
     ⊎_elim
     (λ low. inl ((let whole : v * 2 ^ shift ≡ v * 2 ^ shift + 0 = omega arith in ap (λ n. bit_at n m) whole) ∙ bit_at_cat_low v shift 0 m low ∙ bit_at-zero m))
     (λ high.
-      let place : shift + (m - shift) ≡ m = omega arith in
-      ⊎_elim
-      (λ inside. inr (m - shift, inside, place))
-      (λ past. inl (ap (bit_at (v * 2 ^ shift)) (sym place) ∙ bit_at_shifted v shift (m - shift) ∙ bit_at_above v depth (m - shift) small past))
-      (cases_lt (m - shift) depth))
+    let place : shift + (m - shift) ≡ m = omega arith in
+    ⊎_elim
+    (λ inside. inr (m - shift, inside, place))
+    (λ past. inl (ap (bit_at (v * 2 ^ shift)) (sym place) ∙ bit_at_shifted v shift (m - shift) ∙ bit_at_above v depth (m - shift) small past))
+    (cases_lt (m - shift) depth))
     (cases_lt m shift)
 
 -- ---- numbers that share no bit
@@ -92,12 +92,12 @@ module _ (f : ℕ → ℕ) (n : ℕ) (apart : (i j : ℕ) → i < n → j < n �
       ⊎_elim
       (λ none. inr (a, omega arith, omega arith, omega arith))
       (λ one.
-        let differ : a ≢ one.0 = omega (arith, one.1) in
-        let share = apart a one.0 here (omega (arith, one.2)) differ b in
-        ⊎_elim
-        (λ (unset : bit_at (f a) b ≡ 0). inr (one.0, omega (arith, one.1), omega (arith, one.2), omega (arith, one.3)))
-        (λ (set : 0 < bit_at (f a) b). inr (a, omega arith, omega arith, omega (arith, one.3, share)))
-        (eq-zero-or-pos (bit_at (f a) b)))
+      let differ : a ≢ one.0 = omega (arith, one.1) in
+      let share = apart a one.0 here (omega (arith, one.2)) differ b in
+      ⊎_elim
+      (λ (unset : bit_at (f a) b ≡ 0). inr (one.0, omega (arith, one.1), omega (arith, one.2), omega (arith, one.3)))
+      (λ (set : 0 < bit_at (f a) b). inr (a, omega arith, omega arith, omega (arith, one.3, share)))
+      (eq-zero-or-pos (bit_at (f a) b)))
       cases
 
   -- a bit of the sum is a bit of one of the numbers, or 0
@@ -128,9 +128,9 @@ module _ (f : ℕ → ℕ) (n : ℕ) (apart : (i j : ℕ) → i < n → j < n �
       ⊎_elim
       (λ none. omega arith)
       (λ one. ⊎_elim
-        (λ (same : one.0 ≡ j). one.3 ∙ ap (λ i. bit_at (f i) b) same)
-        (λ (other : one.0 ≢ j). omega (arith, one.3, others one.0 (omega (arith, one.2)) other))
-        (cases_eq one.0 j))
+      (λ (same : one.0 ≡ j). one.3 ∙ ap (λ i. bit_at (f i) b) same)
+      (λ (other : one.0 ≢ j). omega (arith, one.3, others one.0 (omega (arith, one.2)) other))
+      (cases_eq one.0 j))
       (bit_at_sum_cases 0 n b (omega arith))
 
   -- a bit that is set in none is 0

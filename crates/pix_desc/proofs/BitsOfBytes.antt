@@ -113,12 +113,14 @@ bit_at_part_cases true be first number k b below = ⊎_elim
     (cases_eq k first)
 bit_at_part_cases false be first number k b below = ⊎_elim
     (λ (here : k ≡ first). inr (elim be as (λ v. (m : ℕ) × IsBitAt false v first m k b) [
-        true ↦ (8 + b, record { inside = omega arith; byte = omega arith; bit = omega arith })
-      | false ↦ (b, record { inside = omega arith; byte = omega arith; bit = omega arith }) ]))
+      | true ↦ (8 + b, record { inside = omega arith; byte = omega arith; bit = omega arith })
+      | false ↦ (b, record { inside = omega arith; byte = omega arith; bit = omega arith })
+    ]))
     (λ (there : k ≢ first). ⊎_elim
-      (λ (next : k ≡ first + 1). inr (elim be as (λ v. (m : ℕ) × IsBitAt false v first m k b) [
-          true ↦ (b, record { inside = omega arith; byte = omega arith; bit = omega arith })
-        | false ↦ (8 + b, record { inside = omega arith; byte = omega arith; bit = omega arith }) ]))
-      (λ (past : k ≢ first + 1). inl (ap (λ n. bit_at n b) (part_elsewhere false be first number k there past) ∙ bit_at-zero b))
-      (cases_eq k (first + 1)))
+    (λ (next : k ≡ first + 1). inr (elim be as (λ v. (m : ℕ) × IsBitAt false v first m k b) [
+      | true ↦ (b, record { inside = omega arith; byte = omega arith; bit = omega arith })
+      | false ↦ (8 + b, record { inside = omega arith; byte = omega arith; bit = omega arith })
+    ]))
+    (λ (past : k ≢ first + 1). inl (ap (λ n. bit_at n b) (part_elsewhere false be first number k there past) ∙ bit_at-zero b))
+    (cases_eq k (first + 1)))
     (cases_eq k first)

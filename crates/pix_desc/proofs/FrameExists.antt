@@ -42,7 +42,7 @@ module _ (desc : Desc) (width height : ℕ) (value : ℕ → ℕ → ℕ → ℕ
       let split : k ≡ 8 * (k / 8) + k % 8 = omega arith in
       let byte : k / 8 < plane_step desc p = omega arith in
       let is : IsByteOf desc width height (start + k / 8) p x y (k / 8) =
-          record { plane = plane_below desc p laid (omega arith); column = column; row = row; byte = byte; place = refl } in
+      record { plane = plane_below desc p laid (omega arith); column = column; row = row; byte = byte; place = refl } in
       ap (λ t. bit_of frame (8 * start + t)) split
       ∙ bit_of_byte frame start (k / 8) (k % 8) (omega arith)
       ∙ ap (λ n. bit_at n (k % 8)) (byte_of_frame desc width height value (start + k / 8) p x y (k / 8) is)
@@ -64,11 +64,11 @@ module _ (desc : Desc) (width height : ℕ) (value : ℕ → ℕ → ℕ → ℕ
       same_from_bits_below c.depth (frame_component desc width height frame j x y) (value j x y)
       (frame_component_below desc width height frame j x y) (fit j x y listed column row)
       (λ i inside.
-        let k = place_of desc c (c.shift + i) in
-        let by : IsReadBy desc c.plane k j i = record { listed = listed; there = refl; inside = inside; at = bit_place_is desc c i (laid.first j listed) } in
-        frame_bit_by desc width height frame c.plane x y k j i laid frame_bytes by
-        ∙ pixel_at c.plane x y k column row (read_inside desc c.plane k j i laid by)
-        ∙ pixel_bit_at desc laid c.plane (λ t. value t x y) (λ t there. fit t x y there column row) k j i by)
+      let k = place_of desc c (c.shift + i) in
+      let by : IsReadBy desc c.plane k j i = record { listed = listed; there = refl; inside = inside; at = bit_place_is desc c i (laid.first j listed) } in
+      frame_bit_by desc width height frame c.plane x y k j i laid frame_bytes by
+      ∙ pixel_at c.plane x y k column row (read_inside desc c.plane k j i laid by)
+      ∙ pixel_bit_at desc laid c.plane (λ t. value t x y) (λ t there. fit t x y there column row) k j i by)
 
   frame_spare : (plane x y k : ℕ) → x < width → y < height → k < 8 * plane_step desc plane → reads_pixel_bit desc plane k ≡ false
       → bit_of (frame_of desc width height value) (8 * (row_start desc width height plane y + x * plane_step desc plane) + k) ≡ 0
@@ -77,8 +77,8 @@ module _ (desc : Desc) (width height : ℕ) (value : ℕ → ℕ → ℕ → ℕ
 
   pub frame_says : desc.palette ≡ false → IsFrameOf desc width height value (frame_of desc width height value)
   frame_says none = record {
-      bytes = frame_bytes;
-      size = length-frame_of desc width height value ∙ sym (frame_length_is desc width height none);
-      reads = frame_reads;
-      spare = frame_spare;
-    }
+    bytes = frame_bytes;
+    size = length-frame_of desc width height value ∙ sym (frame_length_is desc width height none);
+    reads = frame_reads;
+    spare = frame_spare;
+  }

@@ -19,9 +19,9 @@ only_frame desc width height value frame valid none says = Only.only_frame desc 
 
 pub one_frame : (desc : Desc) (width height : ℕ) (value : ℕ → ℕ → ℕ → ℕ) → IsValid desc → desc.palette ≡ false → HasOneFrame desc width height value
 one_frame desc width height value valid none = record {
-    says = frame_says desc width height value valid none;
-    only = λ frame says. only_frame desc width height value frame valid none says;
-  }
+  says = frame_says desc width height value valid none;
+  only = λ frame says. only_frame desc width height value frame valid none says;
+}
 
 -- two frames that say the same values are one
 pub same_frames : (desc : Desc) (width height : ℕ) (value : ℕ → ℕ → ℕ → ℕ) (a b : List ℕ) → IsValid desc → desc.palette ≡ false

@@ -60,15 +60,15 @@ module _ (desc : Desc) (laid : IsLaidOut desc) (plane : ℕ) (values : ℕ → �
       let number = values j * 2 ^ c.shift in
       ⊎_elim
       (λ (here : c.plane ≡ plane). ⊎_elim
-        (λ none. inl (ap (λ n. bit_at n b) (part_here k j here) ∙ none))
-        (λ (one : (m : ℕ) × IsBitAt (is_narrow c) desc.be first m k b). ⊎_elim
-          (λ none. inl (ap (λ n. bit_at n b) (part_here k j here) ∙ bit_at_part (is_narrow c) desc.be first number one.0 k b one.1 ∙ none))
-          (λ (bit : (i : ℕ) × (i < c.depth) × (c.shift + i ≡ one.0)).
-            let byte : k ≡ first + byte_of (is_narrow c) desc.be (c.shift + bit.0) = one.1.byte ∙ ap (λ m. first + byte_of (is_narrow c) desc.be m) (sym bit.2) in
-            let place : place_of desc c (c.shift + bit.0) ≡ 8 * k + b = omega (arith, byte, one.1.bit, bit.2) in
-            inr (bit.0, record { listed = listed; there = here; inside = bit.1; at = bit_place_is desc c bit.0 (laid.first j listed) ∙ ap pos place }))
-          (bit_at_shifted_cases (values j) c.shift c.depth one.0 (fit j listed)))
-        (bit_at_part_cases (is_narrow c) desc.be first number k b below))
+      (λ none. inl (ap (λ n. bit_at n b) (part_here k j here) ∙ none))
+      (λ (one : (m : ℕ) × IsBitAt (is_narrow c) desc.be first m k b). ⊎_elim
+      (λ none. inl (ap (λ n. bit_at n b) (part_here k j here) ∙ bit_at_part (is_narrow c) desc.be first number one.0 k b one.1 ∙ none))
+      (λ (bit : (i : ℕ) × (i < c.depth) × (c.shift + i ≡ one.0)).
+      let byte : k ≡ first + byte_of (is_narrow c) desc.be (c.shift + bit.0) = one.1.byte ∙ ap (λ m. first + byte_of (is_narrow c) desc.be m) (sym bit.2) in
+      let place : place_of desc c (c.shift + bit.0) ≡ 8 * k + b = omega (arith, byte, one.1.bit, bit.2) in
+      inr (bit.0, record { listed = listed; there = here; inside = bit.1; at = bit_place_is desc c bit.0 (laid.first j listed) ∙ ap pos place }))
+      (bit_at_shifted_cases (values j) c.shift c.depth one.0 (fit j listed)))
+      (bit_at_part_cases (is_narrow c) desc.be first number k b below))
       (λ (there : c.plane ≢ plane). inl (ap (λ n. bit_at n b) (part_elsewhere k j there) ∙ bit_at-zero b))
       (cases_eq c.plane plane)
 
@@ -78,16 +78,16 @@ module _ (desc : Desc) (laid : IsLaidOut desc) (plane : ℕ) (values : ℕ → �
       ⊎_elim
       (λ none. none)
       (λ (o : (i : ℕ) × IsReadBy desc plane (8 * k + b) other i).
-        absurd (laid.apart other j o.0 i listed by.listed differ (o.1.there ∙ sym by.there) o.1.inside by.inside (o.1.at ∙ sym by.at)))
+      absurd (laid.apart other j o.0 i listed by.listed differ (o.1.there ∙ sym by.there) o.1.inside by.inside (o.1.at ∙ sym by.at)))
       (part_in_cases k b other below listed)
 
   parts_share_none : (k i j : ℕ) → i < desc.count → j < desc.count → i ≢ j → SharesNoBit (part_in desc plane values k i) (part_in desc plane values k j)
   parts_share_none k i j listed also differ b =
       ⊎_elim
       (λ (below : b < 8). ⊎_elim
-        (λ none. omega arith)
-        (λ (one : (t : ℕ) × IsReadBy desc plane (8 * k + b) i t). omega (arith, part_in_apart k b i one.0 j below one.1 also (λ e. differ (sym e))))
-        (part_in_cases k b i below listed))
+      (λ none. omega arith)
+      (λ (one : (t : ℕ) × IsReadBy desc plane (8 * k + b) i t). omega (arith, part_in_apart k b i one.0 j below one.1 also (λ e. differ (sym e))))
+      (part_in_cases k b i below listed))
       (λ (above : 8 ≤ b). omega (arith, bit_at_above (part_in desc plane values k i) 8 b (part_in_below k i listed) above))
       (cases_lt b 8)
 
@@ -104,8 +104,8 @@ module _ (desc : Desc) (laid : IsLaidOut desc) (plane : ℕ) (values : ℕ → �
   spare_bit k b below unread =
       bit_at_sum_none (part_in desc plane values k) desc.count (parts_share_none k) b
       (λ j listed. ⊎_elim (λ none. none)
-        (λ (one : (i : ℕ) × IsReadBy desc plane (8 * k + b) j i). absurd (true≢false (sym (reads_from desc plane (8 * k + b) j one.0 one.1) ∙ unread)))
-        (part_in_cases k b j below listed))
+      (λ (one : (i : ℕ) × IsReadBy desc plane (8 * k + b) j i). absurd (true≢false (sym (reads_from desc plane (8 * k + b) j one.0 one.1) ∙ unread)))
+      (part_in_cases k b j below listed))
 
   split : (k : ℕ) → k ≡ 8 * (k / 8) + k % 8
   split k = omega arith

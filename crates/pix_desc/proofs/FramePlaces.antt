@@ -39,7 +39,7 @@ component_bit desc j row x i c is inside most small =
     let m = c.shift + i in
     let begin : at ≡ at + 0 = omega arith in
     let number : number_at desc c row at ≡ number_of (is_narrow c) desc.be (get_or row (at + 0) 0) (get_or row (at + 1) 0) =
-        ap (λ t. number_of (is_narrow c) desc.be (get_or row t 0) (get_or row (at + 1) 0)) begin in
+    ap (λ t. number_of (is_narrow c) desc.be (get_or row t 0) (get_or row (at + 1) 0)) begin in
     let fits : m < bits_of (is_narrow c) = omega (arith, fits_bits (c.shift + c.depth) most) in
     let byte : at + byte_of (is_narrow c) desc.be m ≡ (8 * (x * c.step) + place_of desc c m) / 8 = omega arith in
     let bit : m % 8 ≡ (8 * (x * c.step) + place_of desc c m) % 8 = omega arith in
@@ -61,7 +61,7 @@ bit_of_row frame start k =
 pub frame_bit : (desc : Desc) (width height : ℕ) (frame : List ℕ) (j x y i k : ℕ) → IsLaidOut desc → All (λ byte. byte < 256) frame → j < desc.count
     → i < (component_of desc j).depth → bit_place desc (component_of desc j) i ≡ pos k
     → bit_at (frame_component desc width height frame j x y) i
-      ≡ bit_of frame (8 * (row_start desc width height (component_of desc j).plane y + x * (component_of desc j).step) + k)
+    ≡ bit_of frame (8 * (row_start desc width height (component_of desc j).plane y + x * (component_of desc j).step) + k)
 unfolding frame_component
 frame_bit desc width height frame j x y i k laid bytes listed inside at =
     let c = component_of desc j in

@@ -15,8 +15,8 @@ plane_end desc width height (suc m) p below =
     ⊎_elim
     (λ (earlier : p < m). omega (arith, plane_end desc width height m p earlier))
     (λ (last : m ≤ p).
-      let same : p ≡ m = omega arith in
-      subst (λ q. plane_start desc width height q + plane_length desc width height q ≤ plane_start desc width height m + plane_length desc width height m) (sym same) (omega arith))
+    let same : p ≡ m = omega arith in
+    subst (λ q. plane_start desc width height q + plane_length desc width height q ≤ plane_start desc width height m + plane_length desc width height m) (sym same) (omega arith))
     (cases_lt p m)
 
 pub length-planes_of : (desc : Desc) (width height : ℕ) (value : ℕ → ℕ → ℕ → ℕ) (m : ℕ) → length (planes_of desc width height value m) ≡ plane_start desc width height m
@@ -35,16 +35,16 @@ plane_at desc width height value (suc m) p k below within =
     let long : length before ≡ plane_start desc width height m = length-planes_of desc width height value m in
     ⊎_elim
     (λ (earlier : p < m).
-      get_or-append before bytes 0 (plane_start desc width height p + k) (omega (arith, long, plane_end desc width height m p earlier))
-      ∙ plane_at desc width height value m p k earlier within)
+    get_or-append before bytes 0 (plane_start desc width height p + k) (omega (arith, long, plane_end desc width height m p earlier))
+    ∙ plane_at desc width height value m p k earlier within)
     (λ (last : m ≤ p).
-      let same : p ≡ m = omega arith in
-      let inside : k < plane_length desc width height m = subst (λ q. k < plane_length desc width height q) same within in
-      ap (λ q. get_or (before ++ bytes) (plane_start desc width height q + k) 0) same
-      ∙ ap (λ n. get_or (before ++ bytes) (n + k) 0) (sym long)
-      ∙ get_or-append-add before bytes k 0
-      ∙ get_or-map-range_with_len (plane_byte desc width value m) 0 (plane_length desc width height m) k k 0 inside (omega arith)
-      ∙ ap (λ q. plane_byte desc width value q k) (sym same))
+    let same : p ≡ m = omega arith in
+    let inside : k < plane_length desc width height m = subst (λ q. k < plane_length desc width height q) same within in
+    ap (λ q. get_or (before ++ bytes) (plane_start desc width height q + k) 0) same
+    ∙ ap (λ n. get_or (before ++ bytes) (n + k) 0) (sym long)
+    ∙ get_or-append-add before bytes k 0
+    ∙ get_or-map-range_with_len (plane_byte desc width value m) 0 (plane_length desc width height m) k k 0 inside (omega arith)
+    ∙ ap (λ q. plane_byte desc width value q k) (sym same))
     (cases_lt p m)
 
 -- Byte `at` of the frame is byte o of the pixel at x and y in plane p.
@@ -68,7 +68,7 @@ find_plane desc width height (suc m) at below =
 -- row, column and byte of a place in a plane
 place_in_plane : (k height width step : ℕ) → k < height * (width * step)
     → (k / (width * step) < height) × (k % (width * step) / step < width) × (k % (width * step) % step < step)
-      × (k ≡ k / (width * step) * (width * step) + (k % (width * step) / step * step + k % (width * step) % step))
+    × (k ≡ k / (width * step) * (width * step) + (k % (width * step) / step * step + k % (width * step) % step))
 place_in_plane k height width step below =
     let row = width * step in
     let some : 0 < row = ⊎_elim (λ p. p) (λ none. let zero_row : row ≡ 0 = omega arith in absurd (omega (arith, ap (λ r. height * r) zero_row))) (cases_lt 0 row) in

@@ -54,7 +54,7 @@ reads_from desc plane k j i by =
     let is : get_or (components desc) j (component_of desc j) ≡ component_of desc j = get_or-components desc j (component_of desc j) by.listed in
     list_any_at (λ c. nat_eq c.plane plane && reads_bit desc c (pos k)) (components desc) j (component_of desc j) (omega (arith, by.listed, length-components desc))
     (subst (λ c. (nat_eq c.plane plane && reads_bit desc c (pos k)) ≡ true) (sym is)
-      (and_from (nat_eq (component_of desc j).plane plane) (reads_bit desc (component_of desc j) (pos k)) (eq-eqb (component_of desc j).plane plane by.there) (place_reads desc (component_of desc j) k i by.inside by.at)))
+    (and_from (nat_eq (component_of desc j).plane plane) (reads_bit desc (component_of desc j) (pos k)) (eq-eqb (component_of desc j).plane plane by.there) (place_reads desc (component_of desc j) k i by.inside by.at)))
 
 -- the step of the plane is that of the component
 step_by : (desc : Desc) (plane k j i : ℕ) → IsLaidOut desc → IsReadBy desc plane k j i → (component_of desc j).step ≡ plane_step desc plane
@@ -91,9 +91,9 @@ plane_below desc plane laid some =
     ⊎_elim
     (λ below. below)
     (λ (past : 4 ≤ plane).
-      let none = step_none plane (components desc) (λ i d inside same.
-        let listed : i < desc.count = omega (arith, inside, length-components desc) in
-        let is : (component_of desc i).plane ≡ plane = ap (λ c. c.plane) (sym (get_or-components desc i d listed)) ∙ same in
-        absurd (omega (arith, is, laid.plane i listed))) in
-      absurd (omega (arith, none)))
+    let none = step_none plane (components desc) (λ i d inside same.
+    let listed : i < desc.count = omega (arith, inside, length-components desc) in
+    let is : (component_of desc i).plane ≡ plane = ap (λ c. c.plane) (sym (get_or-components desc i d listed)) ∙ same in
+    absurd (omega (arith, is, laid.plane i listed))) in
+    absurd (omega (arith, none)))
     (cases_lt plane 4)

@@ -35,7 +35,10 @@ abbrev vuya : Desc
 vuya = record {
   count = 4;
   comps = comp 0 4 (pos 2) 0 8 ∷ comp 0 4 (pos 1) 0 8 ∷ comp 0 4 (pos 0) 0 8 ∷ comp 0 4 (pos 3) 0 8 ∷ [];
-  be = false; rgb = false; alpha = true; palette = false;
+  be = false;
+  rgb = false;
+  alpha = true;
+  palette = false;
 }
 
 vuya_frame : frame_of vuya 1 1 (values (0x10 ∷ 0x80 ∷ 0x81 ∷ 0xFF ∷ [])) ≡ 0x81 ∷ 0x80 ∷ 0x10 ∷ 0xFF ∷ []
@@ -73,8 +76,12 @@ yuv444p_component = refl
 -- two rows of two indexes, and the palette
 abbrev pal8 : Desc
 pal8 = record {
-  count = 1; comps = comp 0 1 (pos 0) 0 8 ∷ no_component ∷ no_component ∷ no_component ∷ [];
-  be = false; rgb = false; alpha = true; palette = true;
+  count = 1;
+  comps = comp 0 1 (pos 0) 0 8 ∷ no_component ∷ no_component ∷ no_component ∷ [];
+  be = false;
+  rgb = false;
+  alpha = true;
+  palette = true;
 }
 
 pal8_length : frame_length pal8 2 2 ≡ 1028
