@@ -1,11 +1,11 @@
 -- No two raw frames say the same values.
-use Rattle.std.proofs.Common.{◌≡◌, ℕ, ◌+◌, ◌*◌, ◌^◌, ◌<◌, ⊎_elim, Bool, true, false, if◌then◌else◌, nat_eq, List, All, length, get_or, ext_get_or, sym, refl, ap, subst, ◌∙◌, arith}
+use Rattle.std.proofs.Common.{◌≡◌, ℕ, ◌+◌, ◌*◌, ◌^◌, ◌<◌, ⊎_elim, true, false, if◌then◌else◌, nat_eq, List, get_or, ext_get_or, sym, ap, subst, ◌∙◌, arith}
 use Rattle.std.specs.Int.{bit_at}
 use Rattle.std.proofs.lemmas.Bool.{cases_Bool}
 use Rattle.std.proofs.lemmas.Nat.Bits.{same_from_bits_below}
 use Rattle.pix_desc.specs.declared.desc.Desc.{Desc}
 use Rattle.pix_desc.specs.Component.{component_of, bit_of}
-use Rattle.pix_desc.specs.Frame.{plane_step, plane_start, row_start, frame_component, frame_of, reads_pixel_bit, part, pixel_byte, IsFrameOf, FitDepths, AgreeWithin}
+use Rattle.pix_desc.specs.Frame.{plane_step, row_start, frame_of, reads_pixel_bit, part, pixel_byte, IsFrameOf, FitDepths, AgreeWithin}
 use Rattle.pix_desc.specs.Layouts.{IsLaidOut}
 use Rattle.pix_desc.proofs.Bits.{sum_from_same}
 use Rattle.pix_desc.proofs.FramePlaces.{byte_below, frame_component_below}

@@ -1,12 +1,11 @@
 -- The bits of a byte of a pixel that is made of its components' values.
-use Rattle.std.proofs.Common.{◌≡◌, ℕ, ◌+◌, ◌-◌, ◌*◌, ◌/◌, ◌%◌, ◌^◌, ◌<◌, ◌≤◌, ◌≢◌, ◌⊎◌, inl, inr, ⊎_elim, min, Bool, true, false, pos, if◌then◌else◌, nat_eq, eq-eqb, true≢false, pow_mono, sym, refl, ap, subst, ◌∙◌, arith}
+use Rattle.std.proofs.Common.{◌≡◌, ℕ, ◌+◌, ◌*◌, ◌/◌, ◌%◌, ◌^◌, ◌<◌, ◌≤◌, ◌≢◌, ◌⊎◌, inl, inr, ⊎_elim, false, pos, if◌then◌else◌, nat_eq, eq-eqb, true≢false, pow_mono, sym, ap, subst, ◌∙◌, arith}
 use Rattle.std.specs.Int.{bit_at}
-use Rattle.std.proofs.lemmas.Bool.{cases_lt, cases_eq, cases_Bool, cond-true, cond-false, ne_eqb}
+use Rattle.std.proofs.lemmas.Bool.{cases_lt, cases_eq, cond-true, cond-false, ne_eqb}
 use Rattle.std.proofs.lemmas.Nat.{shl_below}
 use Rattle.std.proofs.lemmas.Nat.Bits.{bit_at-zero, bit_at_above}
-use Rattle.pix_desc.specs.declared.desc.Comp.{Comp}
 use Rattle.pix_desc.specs.declared.desc.Desc.{Desc}
-use Rattle.pix_desc.specs.Component.{component_of, is_narrow, first_byte, count_of, bit_place}
+use Rattle.pix_desc.specs.Component.{component_of, is_narrow, first_byte, count_of}
 use Rattle.pix_desc.specs.Frame.{part, pixel_byte, reads_pixel_bit}
 use Rattle.pix_desc.specs.Layouts.{IsLaidOut}
 use Rattle.pix_desc.proofs.Bits.{SharesNoBit, bit_at_shifted, bit_at_shifted_cases, bit_at_sum_only, bit_at_sum_none, sum_from_below}
