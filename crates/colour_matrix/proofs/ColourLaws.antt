@@ -1,15 +1,14 @@
 -- To RGB and from RGB undo each other, and the rows of coefficients do the same as the equations.
-use Rattle.std.proofs.Common.{◌≡◌, ℕ, ◌+◌, ◌-◌, ◌*◌, ◌<◌, ◌≤◌, List, [], ◌∷◌, pos, neg_ℤ, refl, sym, ◌∙◌, ap, arith}
-use native.Mathlib.Nat.{mul-pos}
-use Rattle.frac_math.specs.Fraction.{ℚ, nat, over, ◌+ℚ◌, ◌*ℚ◌, ◌-ℚ◌, ◌/ℚ◌, inverse, neg_ℚ}
-use Rattle.frac_math.proofs.Ring.{var, num, ◌⊕◌, ◌⊖◌, ◌⊗◌, minus, ring, ring_from, done, by}
-use Rattle.frac_math.proofs.FractionRing.{fractions, whole-mul}
+use Rattle.std.proofs.Common.{◌≡◌, [], ◌∷◌, pos, refl}
+use Rattle.frac_math.specs.Fraction.{ℚ, nat, ◌+ℚ◌, ◌*ℚ◌, ◌-ℚ◌, inverse}
+use Rattle.frac_math.proofs.Ring.{var, num, ◌⊕◌, ◌⊖◌, ◌⊗◌, minus, ring_from, done, by}
+use Rattle.frac_math.proofs.FractionRing.{fractions}
 use Rattle.colour_matrix.specs.Matrix.{IsMatrix}
-use Rattle.colour_matrix.specs.Values.{Values, by_rows, product, identity}
-use Rattle.colour_matrix.specs.Colour.{green_of, to_rgb, from_rgb, to_rgb_rows, from_rgb_rows}
+use Rattle.colour_matrix.specs.Values.{Values}
+use Rattle.colour_matrix.specs.Colour.{green_of, to_rgb, from_rgb}
 use Rattle.colour_matrix.specs.declared.matrix.Matrix.{Matrix}
-use Rattle.colour_matrix.proofs.Quotients.{nat-sub, inverse_of, over_quotient, over_negative}
-use Rattle.colour_matrix.proofs.Rows.{same_values, product_is}
+use Rattle.colour_matrix.proofs.Parts.{inverses}
+use Rattle.colour_matrix.proofs.Rows.{same_values}
 
 -- over any fractions: q, r, b, the values, then iq for 1/q, iqg for 1/(q g) and so on
 luma_back : (q r b y u t iq iqg : ℚ) → q *ℚ iq ≡ nat 1 → q *ℚ (q -ℚ r -ℚ b) *ℚ iqg ≡ nat 1
@@ -51,29 +50,9 @@ green_back q r b red green blue y iqg ir ib h hr hb s =
     (by (minus (Q ⊗ IQG)) (R ⊗ RED ⊕ G ⊗ GREEN ⊕ B ⊗ BLUE) (Q ⊗ Y) done))))
     (h, (hr, (hb, (s, tt)))) refl
 
-pub record Inverses (m : Matrix) : Type 0 where
-  pub of_q : nat m.q *ℚ inverse (nat m.q) ≡ nat 1
-  pub of_qg : nat m.q *ℚ green_of m *ℚ inverse (nat m.q *ℚ green_of m) ≡ nat 1
-  pub of_r : nat 2 *ℚ (nat m.q -ℚ nat m.r) *ℚ inverse (nat 2 *ℚ (nat m.q -ℚ nat m.r)) ≡ nat 1
-  pub of_b : nat 2 *ℚ (nat m.q -ℚ nat m.b) *ℚ inverse (nat 2 *ℚ (nat m.q -ℚ nat m.b)) ≡ nat 1
-
-pub inverses : (m : Matrix) → IsMatrix m → Inverses m
-inverses m h =
-    let r_in : m.r ≤ m.q = omega arith in
-    let b_in : m.b ≤ m.q = omega arith in
-    let rb_in : m.b ≤ m.q - m.r = omega arith in
-    let g_is : green_of m ≡ nat (m.q - m.r - m.b) = ap (λ x. x -ℚ nat m.b) (nat-sub m.q m.r r_in) ∙ nat-sub (m.q - m.r) m.b rb_in in
-    let pg : 0 < m.q * (m.q - m.r - m.b) = (let p : 0 < m.q = omega arith in let g : 0 < m.q - m.r - m.b = omega arith in mul-pos p g) in
-    record {
-      of_q = inverse_of (nat m.q) m.q refl (omega arith);
-      of_qg = inverse_of (nat m.q *ℚ green_of m) (m.q * (m.q - m.r - m.b)) (ap (λ x. nat m.q *ℚ x) g_is ∙ sym (whole-mul (pos m.q) (pos (m.q - m.r - m.b)))) pg;
-      of_r = inverse_of (nat 2 *ℚ (nat m.q -ℚ nat m.r)) (2 * (m.q - m.r)) (ap (λ x. nat 2 *ℚ x) (nat-sub m.q m.r r_in) ∙ sym (whole-mul (pos 2) (pos (m.q - m.r)))) (omega arith);
-      of_b = inverse_of (nat 2 *ℚ (nat m.q -ℚ nat m.b)) (2 * (m.q - m.b)) (ap (λ x. nat 2 *ℚ x) (nat-sub m.q m.b b_in) ∙ sym (whole-mul (pos 2) (pos (m.q - m.b)))) (omega arith);
-    }
-
-pub from_to : (m : Matrix) (e : Values) → IsMatrix m → from_rgb m (to_rgb m e) ≡ e
+pub from_rgb-to_rgb : (m : Matrix) (e : Values) → IsMatrix m → from_rgb m (to_rgb m e) ≡ e
 unfolding from_rgb to_rgb
-from_to m e h =
+from_rgb-to_rgb m e h =
     let i = inverses m h in
     let luma = luma_back (nat m.q) (nat m.r) (nat m.b) e.first e.second e.third (inverse (nat m.q)) (inverse (nat m.q *ℚ green_of m)) i.of_q i.of_qg in
     same_values _ _ luma
@@ -81,9 +60,9 @@ from_to m e h =
     (rw luma (chroma_back (nat m.q) e.first (nat m.q -ℚ nat m.r) e.third (inverse (nat m.q)) (inverse (nat 2 *ℚ (nat m.q -ℚ nat m.r))) i.of_q i.of_r))
     refl
 
-pub to_from : (m : Matrix) (c : Values) → IsMatrix m → to_rgb m (from_rgb m c) ≡ c
+pub to_rgb-from_rgb : (m : Matrix) (c : Values) → IsMatrix m → to_rgb m (from_rgb m c) ≡ c
 unfolding from_rgb to_rgb
-to_from m c h =
+to_rgb-from_rgb m c h =
     let i = inverses m h in
     let q = nat m.q in let r = nat m.r in let b = nat m.b in
     let sum = r *ℚ c.first +ℚ green_of m *ℚ c.second +ℚ b *ℚ c.third in
@@ -94,4 +73,3 @@ to_from m c h =
     (green_back q r b c.first c.second c.third y (inverse (q *ℚ green_of m)) (inverse (nat 2 *ℚ (q -ℚ r))) (inverse (nat 2 *ℚ (q -ℚ b))) i.of_qg i.of_r i.of_b s)
     (direct_back q y (q -ℚ b) c.third (inverse q) (inverse (nat 2 *ℚ (q -ℚ b))) i.of_q i.of_b)
     refl
-

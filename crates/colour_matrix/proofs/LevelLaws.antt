@@ -1,8 +1,8 @@
 -- The scale of levels is above 0, so codes and values go back and forth.
-use Rattle.std.proofs.Common.{◌≡◌, ℕ, ◌-◌, ◌*◌, ◌^◌, ◌<◌, ◌≤◌, pos, [], ◌∷◌, refl, sym, ◌∙◌, ap, arith}
+use Rattle.std.proofs.Common.{◌≡◌, ℕ, ◌-◌, ◌*◌, ◌^◌, ◌<◌, ◌≤◌, pos, [], ◌∷◌, refl, arith}
 use Rattle.std.proofs.lemmas.Int.{ints}
 use Rattle.std.proofs.lemmas.Nat.{pow_below, pow_pos}
-use Rattle.frac_math.specs.Fraction.{ℚ, nat, over, ◌+ℚ◌, ◌*ℚ◌, ◌-ℚ◌, ◌/ℚ◌, ◌<ℚ◌, inverse}
+use Rattle.frac_math.specs.Fraction.{ℚ, nat, over, ◌*ℚ◌, ◌<ℚ◌, inverse}
 use Rattle.frac_math.proofs.Ring.{var, num, ◌⊕◌, ◌⊖◌, ◌⊗◌, ring_from, done, by}
 use Rattle.frac_math.proofs.FractionRing.{fractions, Stands, same, itself, over_stands, mul_stands, mul-inverse}
 use Rattle.frac_math.proofs.FractionOrder.{cross_by_le, lt_of_not_le_ℚ}
@@ -46,14 +46,14 @@ scale_positive Direct depth range h = greatest_positive depth h
 pub inverse_of_positive : (x : ℚ) → nat 0 <ℚ x → x *ℚ inverse x ≡ nat 1
 inverse_of_positive x h = mul-inverse x (λ e. absurd (omega (arith, ints, h.below, e)))
 
-pub code_back : (l : Levels) (code : ℚ) → nat 0 <ℚ l.scale → to_code l (from_code l code) ≡ code
+pub to_code-from_code : (l : Levels) (code : ℚ) → nat 0 <ℚ l.scale → to_code l (from_code l code) ≡ code
 unfolding to_code from_code
-code_back l code h =
+to_code-from_code l code h =
     ring_from fractions (l.scale ∷ l.base ∷ code ∷ inverse l.scale ∷ []) (var 0 ⊗ ((var 2 ⊖ var 1) ⊗ var 3) ⊕ var 1) (var 2)
     (by (var 2 ⊖ var 1) (var 0 ⊗ var 3) (num (pos 1)) done) (inverse_of_positive l.scale h, tt) refl
 
-pub value_back : (l : Levels) (e : ℚ) → nat 0 <ℚ l.scale → from_code l (to_code l e) ≡ e
+pub from_code-to_code : (l : Levels) (e : ℚ) → nat 0 <ℚ l.scale → from_code l (to_code l e) ≡ e
 unfolding to_code from_code
-value_back l e h =
+from_code-to_code l e h =
     ring_from fractions (l.scale ∷ l.base ∷ e ∷ inverse l.scale ∷ []) ((var 0 ⊗ var 2 ⊕ var 1 ⊖ var 1) ⊗ var 3) (var 2)
     (by (var 2) (var 0 ⊗ var 3) (num (pos 1)) done) (inverse_of_positive l.scale h, tt) refl

@@ -1,14 +1,17 @@
 -- Quotients and differences of natural numbers, as fractions.
-use Rattle.std.proofs.Common.{◌≡◌, ℕ, ◌+◌, ◌-◌, ◌*◌, ◌<◌, ◌≤◌, pos, neg_ℤ, [], ◌∷◌, refl, sym, ◌∙◌, ap, arith}
+use Rattle.std.proofs.Common.{◌≡◌, ℕ, ◌-◌, ◌*◌, ◌<◌, ◌≤◌, pos, neg_ℤ, [], ◌∷◌, refl, sym, ◌∙◌, ap, arith}
 use Rattle.frac_math.specs.Fraction.{ℚ, nat, over, ◌+ℚ◌, ◌*ℚ◌, ◌-ℚ◌, ◌/ℚ◌, inverse, neg_ℚ}
-use Rattle.frac_math.proofs.Ring.{var, num, ◌⊕◌, ◌⊖◌, ◌⊗◌, minus, ring, ring_from, done, by}
+use Rattle.frac_math.proofs.Ring.{var, num, ◌⊕◌, ◌⊖◌, ◌⊗◌, ring, ring_from, done, by}
 use Rattle.frac_math.proofs.Integers.{ints_ring}
-use Rattle.frac_math.proofs.FractionRing.{fractions, Stands, same, itself, over_stands, mul_stands, neg_stands, whole-add, mul-inverse}
+use Rattle.frac_math.proofs.FractionRing.{fractions, same, itself, over_stands, mul_stands, neg_stands, whole-add, whole-mul, mul-inverse}
 
 pub nat-sub : (a b : ℕ) → b ≤ a → nat a -ℚ nat b ≡ nat (a - b)
 nat-sub a b h =
     let e : nat a ≡ nat (a - b) +ℚ nat b = ap nat (omega arith) ∙ whole-add (pos (a - b)) (pos b) in
     ring_from fractions (nat a ∷ nat b ∷ nat (a - b) ∷ []) (var 0 ⊖ var 1) (var 2) (by (num (pos 1)) (var 0) (var 2 ⊕ var 1) done) (e, tt) refl
+
+pub nat-mul : (x y : ℚ) (a b : ℕ) → x ≡ nat a → y ≡ nat b → x *ℚ y ≡ nat (a * b)
+nat-mul x y a b p q = rw (p, q) (sym (whole-mul (pos a) (pos b)))
 
 -- a fraction that is a positive whole number times its inverse
 pub inverse_of : (x : ℚ) (n : ℕ) → x ≡ nat n → 0 < n → x *ℚ inverse x ≡ nat 1

@@ -1,5 +1,5 @@
 -- A fraction of two small numbers fits.
-use Rattle.std.proofs.Common.{◌≡◌, ℕ, zero, suc, ◌<◌, ◌/◌, ℤ, pos, neg_ℤ, ◌-ℤ◌, ◌<ℤ◌, refl, sym, ◌∙◌, ap, subst, arith, unsigned_abs}
+use Rattle.std.proofs.Common.{◌≡◌, ℕ, zero, suc, ◌<◌, ℤ, pos, neg_ℤ, ◌-ℤ◌, ◌<ℤ◌, ap, subst, arith, unsigned_abs}
 use Rattle.std.specs.Prelude.{Option, Some, None}
 use Rattle.std.specs.Option.{SomeIff}
 use Rattle.std.specs.Int.{w128, cast_signed, cast_unsigned}

@@ -3,7 +3,7 @@ use Rattle.std.proofs.Common.{◌≡◌, List, [], ◌∷◌, pos, refl, sym, �
 use Rattle.frac_math.specs.Fraction.{ℚ, nat, ◌+ℚ◌, ◌*ℚ◌}
 use Rattle.frac_math.proofs.Ring.{var, num, ◌⊕◌, ◌⊗◌, ring}
 use Rattle.frac_math.proofs.FractionRing.{fractions}
-use Rattle.colour_matrix.specs.Values.{Values, coefficient, row_at, row_sum, by_rows, column, product, identity}
+use Rattle.colour_matrix.specs.Values.{Values, row_at, row_sum, by_rows, column, product, identity}
 
 pub same_values : (e f : Values) → e.first ≡ f.first → e.second ≡ f.second → e.third ≡ f.third → e.fourth ≡ f.fourth → e ≡ f
 same_values e f p q r s = λ i. record { first = p i; second = q i; third = r i; fourth = s i }

@@ -11,11 +11,14 @@ pub record IsMatrix (m : Matrix) : Type 0 where
   pub green : m.r + m.b < m.q
   pub parts : m.q ≤ 16777216
 
+abbrev pub of_parts : ℕ → ℕ → ℕ → Matrix
+of_parts q r b = record { q = q; r = r; b = b }
+
 -- the matrix of a name (K_R and K_B of table 4 of ITU-T H.273), and none for any other name
 abbrev pub matrix_named : List ℕ → Option Matrix
 matrix_named name =
-    if bytes_eq name (codes "bt601") then Some (record { q = 1000; r = 299; b = 114 }) else (
-    if bytes_eq name (codes "bt709") then Some (record { q = 10000; r = 2126; b = 722 }) else (
-    if bytes_eq name (codes "bt2020") then Some (record { q = 10000; r = 2627; b = 593 }) else (
-    if bytes_eq name (codes "smpte240m") then Some (record { q = 1000; r = 212; b = 87 }) else (
-    if bytes_eq name (codes "fcc") then Some (record { q = 100; r = 30; b = 11 }) else None))))
+    if bytes_eq name (codes "bt601") then Some (of_parts 1000 299 114) else (
+    if bytes_eq name (codes "bt709") then Some (of_parts 10000 2126 722) else (
+    if bytes_eq name (codes "bt2020") then Some (of_parts 10000 2627 593) else (
+    if bytes_eq name (codes "smpte240m") then Some (of_parts 1000 212 87) else (
+    if bytes_eq name (codes "fcc") then Some (of_parts 100 30 11) else None))))

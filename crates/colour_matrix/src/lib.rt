@@ -4,10 +4,12 @@
 #![tactic(auto)]
 
 mod class;
-mod coding;
+mod level_table;
 mod matrix;
 mod ratio;
+#[cfg(test)]
+mod tests;
 
 pub use class::{Class, Levels, Range};
-pub use coding::levels;
+pub use level_table::levels;
 pub use matrix::{Matrix, from_rgb, named, to_rgb};

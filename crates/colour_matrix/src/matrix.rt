@@ -1,6 +1,6 @@
 // Matrices by name, and their coefficients.
 ghost use Rattle.std.specs.Prelude.{◌≡◌, IfSome};
-ghost use Rattle.colour_matrix.specs.Matrix.{IsMatrix, matrix_named};
+ghost use Rattle.colour_matrix.specs.Matrix.{IsMatrix, of_parts, matrix_named};
 ghost use Rattle.colour_matrix.specs.Values.{Values, by_rows, product, identity};
 ghost use Rattle.colour_matrix.specs.Colour.{to_rgb, from_rgb, to_rgb_rows, from_rgb_rows};
 
@@ -22,13 +22,19 @@ pub fn named(name: &str) -> Option<Matrix>
     ensures sound { IfSome result IsMatrix }
 {
     match name {
-        "bt601" => Some(Matrix { q: 1000, r: 299, b: 114 }),
-        "bt709" => Some(Matrix { q: 10000, r: 2126, b: 722 }),
-        "bt2020" => Some(Matrix { q: 10000, r: 2627, b: 593 }),
-        "smpte240m" => Some(Matrix { q: 1000, r: 212, b: 87 }),
-        "fcc" => Some(Matrix { q: 100, r: 30, b: 11 }),
+        "bt601" => Some(of_parts(1000, 299, 114)),
+        "bt709" => Some(of_parts(10000, 2126, 722)),
+        "bt2020" => Some(of_parts(10000, 2627, 593)),
+        "smpte240m" => Some(of_parts(1000, 212, 87)),
+        "fcc" => Some(of_parts(100, 30, 11)),
         _ => None,
     }
+}
+
+fn of_parts(q: u32, r: u32, b: u32) -> Matrix
+    ensures { result ≡ of_parts q r b }
+{
+    Matrix { q, r, b }
 }
 
 /// The coefficients by which luma and chroma give red, green and blue: rows R, G, B over Y, U, V.

@@ -1,8 +1,9 @@
 use Rattle.std.proofs.Common.{ap, ◌∙◌}
-use Rattle.colour_matrix.specs.Values.{Values, by_rows, product}
+use Rattle.colour_matrix.specs.Values.{by_rows, product}
 use Rattle.colour_matrix.specs.Colour.{to_rgb_rows}
-use Rattle.colour_matrix.proofs.ColourLaws.{from_to}
-use Rattle.colour_matrix.proofs.ColourRows.{from_rgb_by_rows, from_rgb_product, from_rgb_rows_are}
+use Rattle.colour_matrix.proofs.ColourLaws.{from_rgb-to_rgb}
+use Rattle.colour_matrix.proofs.ColourRows.{by_rows-from_rgb_rows, product-from_rgb_rows}
+use Rattle.colour_matrix.proofs.Coefficients.{from_rgb_rows_are}
 use Rattle.colour_matrix.proofs.matrix.from_rgb.Goals as goal
 
 pub returns-clause-coefficients : goal.returns-clause-coefficients
@@ -18,10 +19,10 @@ returns-clause-coefficients c =
     (rw (q, r, b) at c.negative_ratio-4.ensures)
 
 pub returns-clause-equations : goal.returns-clause-equations
-returns-clause-equations c = λ e. ap (λ rows. by_rows rows e) (returns-clause-coefficients c) ∙ from_rgb_by_rows c.args.m.now e c.requires
+returns-clause-equations c = λ e. ap (λ rows. by_rows rows e) (returns-clause-coefficients c) ∙ by_rows-from_rgb_rows c.args.m.now e c.requires
 
 pub returns-clause-undoes : goal.returns-clause-undoes
-returns-clause-undoes c = λ e. from_to c.args.m.now e c.requires
+returns-clause-undoes c = λ e. from_rgb-to_rgb c.args.m.now e c.requires
 
 pub returns-clause-inverse : goal.returns-clause-inverse
-returns-clause-inverse c = ap (λ rows. product rows (to_rgb_rows c.args.m.now)) (returns-clause-coefficients c) ∙ from_rgb_product c.args.m.now c.requires
+returns-clause-inverse c = ap (λ rows. product rows (to_rgb_rows c.args.m.now)) (returns-clause-coefficients c) ∙ product-from_rgb_rows c.args.m.now c.requires

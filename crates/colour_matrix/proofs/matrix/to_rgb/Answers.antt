@@ -1,8 +1,9 @@
 use Rattle.std.proofs.Common.{ap, ◌∙◌}
-use Rattle.colour_matrix.specs.Values.{Values, by_rows, product}
+use Rattle.colour_matrix.specs.Values.{by_rows, product}
 use Rattle.colour_matrix.specs.Colour.{from_rgb_rows}
-use Rattle.colour_matrix.proofs.ColourLaws.{to_from}
-use Rattle.colour_matrix.proofs.ColourRows.{to_rgb_by_rows, to_rgb_product, to_rgb_rows_are}
+use Rattle.colour_matrix.proofs.ColourLaws.{to_rgb-from_rgb}
+use Rattle.colour_matrix.proofs.ColourRows.{by_rows-to_rgb_rows, product-to_rgb_rows}
+use Rattle.colour_matrix.proofs.Coefficients.{to_rgb_rows_are}
 use Rattle.colour_matrix.proofs.matrix.to_rgb.Goals as goal
 
 pub returns-clause-coefficients : goal.returns-clause-coefficients
@@ -14,10 +15,10 @@ returns-clause-coefficients c =
     (rw (c.from-q.ensures, c.from-b.ensures) at c.ratio-2.ensures)
 
 pub returns-clause-equations : goal.returns-clause-equations
-returns-clause-equations c = λ e. ap (λ rows. by_rows rows e) (returns-clause-coefficients c) ∙ to_rgb_by_rows c.args.m.now e
+returns-clause-equations c = λ e. ap (λ rows. by_rows rows e) (returns-clause-coefficients c) ∙ by_rows-to_rgb_rows c.args.m.now e
 
 pub returns-clause-undoes : goal.returns-clause-undoes
-returns-clause-undoes c = λ e. to_from c.args.m.now e c.requires
+returns-clause-undoes c = λ e. to_rgb-from_rgb c.args.m.now e c.requires
 
 pub returns-clause-inverse : goal.returns-clause-inverse
-returns-clause-inverse c = ap (λ rows. product rows (from_rgb_rows c.args.m.now)) (returns-clause-coefficients c) ∙ to_rgb_product c.args.m.now c.requires
+returns-clause-inverse c = ap (λ rows. product rows (from_rgb_rows c.args.m.now)) (returns-clause-coefficients c) ∙ product-to_rgb_rows c.args.m.now c.requires

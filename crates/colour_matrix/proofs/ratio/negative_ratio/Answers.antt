@@ -1,7 +1,6 @@
-use Rattle.std.proofs.Common.{◌≡◌, Some, pos, neg_ℤ, ◌-ℤ◌, sym, ◌∙◌, rules}
+use Rattle.std.proofs.Common.{pos, neg_ℤ, ◌-ℤ◌, sym, ◌∙◌, rules}
 use Rattle.std.specs.Int.{w128, cast_signed, cast_unsigned}
 use Rattle.std.specs.Int.RustNames.{FitsSigned}
-use Rattle.frac_math.specs.Fraction.{over}
 use Rattle.colour_matrix.proofs.RatioLaws.{ratio_known, negative_is}
 use Rattle.colour_matrix.proofs.ratio.negative_ratio.Goals as goal
 

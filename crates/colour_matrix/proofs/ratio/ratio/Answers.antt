@@ -1,7 +1,6 @@
-use Rattle.std.proofs.Common.{◌≡◌, Some, pos, sym, ◌∙◌, rules}
+use Rattle.std.proofs.Common.{pos, sym, ◌∙◌, rules}
 use Rattle.std.specs.Int.{w128}
 use Rattle.std.specs.Int.RustNames.{FitsSigned}
-use Rattle.frac_math.specs.Fraction.{over}
 use Rattle.colour_matrix.proofs.RatioLaws.{ratio_known}
 use Rattle.colour_matrix.proofs.ratio.ratio.Goals as goal
 

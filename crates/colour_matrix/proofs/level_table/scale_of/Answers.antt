@@ -1,6 +1,6 @@
 use Rattle.colour_matrix.specs.Levels.{levels}
-use Rattle.colour_matrix.proofs.coding.scale_of.Goals as goal
-use Rattle.colour_matrix.proofs.coding.scale_of.Goals.{in_default-via-in-Luma+in_default, in_default-via-in-Chroma+in_default, in_default-via-in_default}
+use Rattle.colour_matrix.proofs.level_table.scale_of.Goals as goal
+use Rattle.colour_matrix.proofs.level_table.scale_of.Goals.{in_default-via-in-Luma+in_default, in_default-via-in-Chroma+in_default, in_default-via-in_default}
 
 pub returns-in-Luma-Limited : goal.returns-in-Luma-Limited
 unfolding levels
@@ -15,6 +15,7 @@ unfolding levels
 returns-in_default c =
     let greatest = rw c.power.ensures at c.whole.ensures in
     elim c.in_default.branch [
-      in_default-via-in-Luma+in_default w ↦ rw (w.in_default.is-0, w.in_default.is-1) greatest
-    | in_default-via-in-Chroma+in_default w ↦ rw (w.in_default.is-0, w.in_default.is-1) greatest
-    | in_default-via-in_default w ↦ rw w.in_default.is-0 greatest ]
+      | in_default-via-in-Luma+in_default w ↦ rw (w.in_default.is-0, w.in_default.is-1) greatest
+      | in_default-via-in-Chroma+in_default w ↦ rw (w.in_default.is-0, w.in_default.is-1) greatest
+      | in_default-via-in_default w ↦ rw w.in_default.is-0 greatest
+    ]

@@ -1,6 +1,6 @@
 use Rattle.colour_matrix.specs.Levels.{levels}
-use Rattle.colour_matrix.proofs.coding.base_of.Goals as goal
-use Rattle.colour_matrix.proofs.coding.base_of.Goals.{in_default-via-in-Luma+in_default, in_default-via-in_default}
+use Rattle.colour_matrix.proofs.level_table.base_of.Goals as goal
+use Rattle.colour_matrix.proofs.level_table.base_of.Goals.{in_default-via-in-Luma+in_default, in_default-via-in_default}
 
 pub returns-in-Luma-Limited : goal.returns-in-Luma-Limited
 unfolding levels
@@ -18,5 +18,6 @@ pub returns-in_default : goal.returns-in_default
 unfolding levels
 returns-in_default c =
     elim c.in_default.branch [
-      in_default-via-in-Luma+in_default w ↦ rw (w.in_default.is-0, w.in_default.is-1) c.whole-in_default.ensures
-    | in_default-via-in_default w ↦ rw w.in_default.is-0 c.whole-in_default.ensures ]
+      | in_default-via-in-Luma+in_default w ↦ rw (w.in_default.is-0, w.in_default.is-1) c.whole-in_default.ensures
+      | in_default-via-in_default w ↦ rw w.in_default.is-0 c.whole-in_default.ensures
+    ]
