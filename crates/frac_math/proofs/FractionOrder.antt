@@ -1,21 +1,12 @@
 -- The order of fractions, and the lesser and the greater of two.
-use Rattle.std.proofs.Common.{◌≡◌, ℕ, zero, suc, ◌+◌, ◌*◌, ◌/◌, ◌<◌, ◌≤◌, Bool, true, false, ◌&&◌, eqb, eqb-true, T, ℤ, pos, negsuc, ◌+ℤ◌, ◌*ℤ◌, ◌≤ℤ◌, ◌<ℤ◌, neg_ℤ, List, [], ◌∷◌, if◌then◌else◌, ◌⊎◌, inl, inr, refl, sym, ◌∙◌, ap, subst, arith}
-use Rattle.std.proofs.lemmas.Int.{ints, clamps, unsigned_abs-mul, by_lt_z}
-use Rattle.std.specs.Int.RustNames.{int_div}
-use Rattle.std.specs.Int.{int_div_euclid, int_min, int_max}
-use lib.IntN.{nat_abs}
-use lib.Dec.{T_prop}
-use Rattle.std.specs.Ordering.{int_eq}
-use Rattle.std.proofs.lemmas.Bool.Decides.{Decides-int_eq}
-use borrow.Author.Differences.{up, down, product_is, same_in, same_out, at_most_in, le_out}
-use lib.Signed.{≤ℤ_refl}
-use mathlib.Core.HLevel.{is_prop→PathP}
-use native.Mathlib.Nat.{div-mul_cancel, eq_of_mul-eq-mul_right, zero-lt-suc, mul-le-mul_right, le_of_mul-le-mul_right, le-div_iff_mul-le, div-lt_iff_lt-mul}
-use Rattle.frac_math.specs.Gcd.{gcd, gcd-is, is_lowest, lowest_positive, lowest_one, same_pair}
-use Rattle.frac_math.specs.Fraction.{ℚ, whole, over, ◌+ℚ◌, ◌*ℚ◌, neg_ℚ, ◌-ℚ◌, reciprocal, inverse, ◌≤ℚ◌, ◌<ℚ◌, is_at_most, min_ℚ, max_ℚ, floor, equal_ℚ}
-use Rattle.frac_math.proofs.Ring.{Ring, Expr, var, num, ◌⊕◌, ◌⊖◌, ◌⊗◌, minus, ring, ring_from, normal, value, done, by}
-use Rattle.frac_math.proofs.Integers.{ints_ring, mul-one_ℤ}
-use Rattle.frac_math.proofs.FractionRing.{Stands, denominator_positive, itself, same, add_stands, mul_stands, neg_stands, fractions, product_positive, cross_same}
+use Rattle.std.proofs.Common.{◌≡◌, ℕ, ◌+◌, ◌*◌, ◌<◌, ◌≤◌, true, false, ℤ, pos, negsuc, ◌*ℤ◌, ◌≤ℤ◌, List, [], ◌∷◌, if◌then◌else◌, ◌⊎◌, inl, inr, refl, sym, ap, subst, arith}
+use Rattle.std.proofs.lemmas.Int.{ints, by_lt_z}
+use borrow.Author.Differences.{up, down, product_is, at_most_in, le_out}
+use native.Mathlib.Nat.{mul-le-mul_right, le_of_mul-le-mul_right}
+use Rattle.frac_math.specs.Fraction.{ℚ, whole, ◌+ℚ◌, ◌*ℚ◌, ◌-ℚ◌, ◌≤ℚ◌, ◌<ℚ◌, is_at_most, min_ℚ, max_ℚ}
+use Rattle.frac_math.proofs.Ring.{Expr, var, num, ◌⊕◌, ◌⊖◌, ◌⊗◌, minus, ring, ring_from, normal, value, done, by}
+use Rattle.frac_math.proofs.Integers.{ints_ring}
+use Rattle.frac_math.proofs.FractionRing.{Stands, denominator_positive, itself, add_stands, mul_stands, neg_stands, fractions, product_positive, cross_same}
 
 -- ---- order
 pub mono_ℤ : (a b : ℤ) (c : ℕ) → a ≤ℤ b → (a *ℤ pos c) ≤ℤ (b *ℤ pos c)

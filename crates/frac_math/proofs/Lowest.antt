@@ -5,7 +5,7 @@ use Rattle.std.proofs.lemmas.Nat.Gcd.{IsGcd-from_zero, IsGcd-from_mod, same_from
 use Rattle.std.specs.Int.RustNames.{int_div, FitsSigned}
 use Rattle.std.specs.Int.{w128, cast_signed, cast_unsigned, IsNonZero, NotMinOverMinusOne}
 use native.Mathlib.Nat.{div-mul_cancel, mul-pos, zero-div}
-use Rattle.frac_math.specs.Gcd.{gcd, gcd-is, gcd_pos, gcd_one, is_lowest, are_lowest, divided_lowest, lowest_positive, lowest_one}
+use Rattle.frac_math.specs.Gcd.{gcd, gcd-is, gcd_pos, gcd_one, is_lowest, divided_lowest, lowest_positive, lowest_one}
 use Rattle.frac_math.specs.Fraction.{ℚ, whole, over, ◌+ℚ◌}
 use Rattle.std.specs.Prelude.{Option, Some, None}
 use Rattle.std.specs.Option.{SomeIff}
