@@ -1,2 +1,4 @@
 pub mod Components
+pub mod Pairs
+pub mod Planes
 pub mod Valid

@@ -1,8 +1,13 @@
 // Descriptors of pixel formats, the components of a row, and raw frames.
 #![tactic(auto)]
 
+mod checks;
 mod desc;
 mod laws;
+mod layout;
+mod place;
+mod word;
 
 pub use desc::{Comp, Desc, DescFault, Layout};
+pub use checks::check;
 pub use laws::passes_laid_out;
