@@ -1,4 +1,6 @@
+pub mod Bits
 pub mod Components
 pub mod Pairs
+pub mod Places
 pub mod Planes
 pub mod Valid

@@ -2,6 +2,7 @@
 #![tactic(auto)]
 
 mod checks;
+mod component;
 mod desc;
 mod laws;
 mod layout;
@@ -10,4 +11,5 @@ mod word;
 
 pub use desc::{Comp, Desc, DescFault, Layout};
 pub use checks::check;
+pub use component::{read_comp, write_comp};
 pub use laws::passes_laid_out;

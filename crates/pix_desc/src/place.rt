@@ -1,7 +1,7 @@
 // Where a component's bits lie in its pixel.
 ghost use Rattle.std.specs.Prelude.{◌≡◌, ◌-◌, ◌/◌, ◌≤◌, ◌&&◌, not, nat_eq, if◌then◌else◌};
 ghost use Rattle.std.specs.List.{list_any};
-ghost use Rattle.pix_desc.specs.Component.{components, is_narrow, bytes_read, first_byte, bit_place, reads_bit};
+ghost use Rattle.pix_desc.specs.Component.{components, is_narrow, bytes_read, count_of, first_byte, bit_place, reads_bit};
 ghost use Rattle.pix_desc.specs.Layouts.{share_bit, overlap};
 
 use crate::{Comp, Desc};
@@ -41,6 +41,13 @@ pub fn first_byte(desc: &Desc, comp: &Comp) -> i16
 {
     let offset = i16::from(comp.offset);
     if desc.be && is_narrow(comp) { offset + 1 } else { offset }
+}
+
+/// The first byte that the component is read from, and 0 where it lies before the pixel.
+pub fn first_place(desc: &Desc, comp: &Comp) -> u16
+    ensures { result ≡ count_of (first_byte desc.now comp.now) }
+{
+    first_byte(desc, comp).max(0) as u16
 }
 
 /// The byte of a component's number that has a bit of it, in the order in which they stand in the pixel.

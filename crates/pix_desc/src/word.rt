@@ -4,8 +4,7 @@ ghost use Rattle.std.specs.List.{list_all};
 ghost use Rattle.pix_desc.specs.Component.{components};
 ghost use Rattle.pix_desc.specs.Layouts.{one_a_plane, some_component, word_shift, has_word_bit, is_spare, begins_spare, spare_runs, has_few_fields, is_word};
 
-use crate::layout::first_place;
-use crate::place::{bytes_read, components};
+use crate::place::{bytes_read, components, first_place};
 use crate::{Comp, Desc};
 
 /// Whether all components lie in the plane.
