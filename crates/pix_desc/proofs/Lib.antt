@@ -1,6 +1,10 @@
-pub mod Components
-pub mod Valid
 pub mod Bits
+pub mod ReplacedBits
+pub mod Components
+pub mod Pairs
+pub mod Places
+pub mod Planes
+pub mod Valid
 pub mod BitsOfBytes
 pub mod FramePlaces
 pub mod FrameReads
