@@ -1,0 +1,16 @@
+use Rattle.std.proofs.Common.{rules, refl, arith}
+use Rattle.pix_desc.specs.Frame.{row_start}
+use Rattle.pix_io.proofs.Frames.{laid_out, row_start-inside}
+use Rattle.pix_io.proofs.frame.row_start.Goals as goal
+
+pub len_before-requires-clause-desc : goal.len_before-requires-clause-desc
+len_before-requires-clause-desc c = laid_out c.args.desc.now c.requires.desc
+
+pub row_len-requires : goal.row_len-requires
+row_len-requires c = laid_out c.args.desc.now c.requires.desc
+
+pub returns-clause-inside : goal.returns-clause-inside
+unfolding row_start
+returns-clause-inside c =
+    let inside = row_start-inside c.args.desc.now c.args.width c.args.height c.args.plane c.args.row c.requires.plane c.requires.row in
+    grind (arith, inside)
