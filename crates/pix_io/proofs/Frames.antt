@@ -1,13 +1,22 @@
 -- The planes of a raw frame, one behind the other.
-use Rattle.std.proofs.Common.{◌≡◌, ℕ, zero, suc, ◌+◌, ◌-◌, ◌*◌, ◌<◌, ◌≤◌, refl, arith, subst, add-zero, add-suc, le_refl}
+use Rattle.std.proofs.Common.{◌≡◌, ℕ, zero, suc, ◌+◌, ◌-◌, ◌*◌, ◌<◌, ◌≤◌, refl, arith, subst, add-zero, add-suc, le_refl, length, drop, ap, ◌∙◌, nat_eq, if◌then◌else◌, add-one, drop_of_length-le}
 use Rattle.std.proofs.Math.Nat.{mul-le-mul_left}
+use Rattle.std.proofs.Math.Seq.{drop-cons}
 use Rattle.pix_desc.specs.declared.desc.Desc.{Desc}
-use Rattle.pix_desc.specs.Layouts.{IsValid, IsLaidOut}
-use Rattle.pix_desc.specs.Frame.{plane_start, plane_length, row_length, frame_length, row_start}
+use Rattle.pix_desc.specs.Component.{components, component_of, no_component}
+use Rattle.pix_desc.proofs.Components.{length-components, get_or-components}
+use Rattle.pix_desc.specs.Frame.{step_in, plane_start, plane_length, row_length, frame_length, row_start}
 
--- stub
-pub laid_out : (desc : Desc) → IsValid desc → IsLaidOut desc
-laid_out desc valid = ?
+-- the step of a plane among the components from one on is that component's, or the step among those behind it
+pub step_in-drop : (desc : Desc) (plane j : ℕ) → j < desc.count
+    → step_in plane (drop j (components desc)) ≡ (if nat_eq (component_of desc j).plane plane then (component_of desc j).step else step_in plane (drop (j + 1) (components desc)))
+step_in-drop desc plane j listed =
+    let within : j < length (components desc) = omega (arith, length-components desc) in
+    ap (step_in plane) (drop-cons (components desc) j no_component within) ∙ rw (get_or-components desc j no_component listed, add-one) refl
+
+-- behind the last component there is none
+pub step_in-none : (desc : Desc) (plane : ℕ) → step_in plane (drop desc.count (components desc)) ≡ 0
+step_in-none desc plane = ap (step_in plane) (drop_of_length-le (components desc) (omega (arith, length-components desc)))
 
 -- one plane more of rows of at most 8 bytes a pixel
 pub planes-bound : (len row width height plane : ℕ) → len ≤ plane * (8 * (width * height)) → row ≤ width * 8 → len + height * row ≤ (plane + 1) * (8 * (width * height))

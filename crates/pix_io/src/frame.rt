@@ -11,7 +11,8 @@ fn step_of(desc: &Desc, plane: u8) -> u8
     ensures value { result ≡ plane_step desc.now plane }
     ensures most { result ≤ 8 }
 {
-    for comp in &desc.comps[..usize::from(desc.count)] {
+    for j in 0..desc.count {
+        let comp = desc.comps[usize::from(j)];
         if comp.plane == plane {
             return comp.step;
         }

@@ -1,6 +1,7 @@
 use Rattle.std.proofs.Common.{rules, refl, arith}
 use Rattle.pix_desc.specs.Frame.{row_start}
-use Rattle.pix_io.proofs.Frames.{laid_out, row_start-inside}
+use Rattle.pix_desc.proofs.Valid.{laid_out}
+use Rattle.pix_io.proofs.Frames.{row_start-inside}
 use Rattle.pix_io.proofs.frame.row_start.Goals as goal
 
 pub len_before-requires-clause-desc : goal.len_before-requires-clause-desc
