@@ -31,7 +31,7 @@ fn row_len(desc: &Desc, width: u32, plane: u8) -> u64
 
 // The bytes of the planes before one.
 fn len_before(desc: &Desc, width: u32, height: u32, plane: u8) -> u64
-    requires desc { IsLaidOut desc.now }
+    requires laid_out { IsLaidOut desc.now }
     requires width { width ≤ 16384 }
     requires height { height ≤ 16384 }
     requires plane { plane ≤ 4 }
@@ -49,7 +49,7 @@ fn len_before(desc: &Desc, width: u32, height: u32, plane: u8) -> u64
 /// palette format 256 entries of 4 bytes behind them.
 #[tactic(auto, unfolding(pix_desc::specs::Frame::frame_length))]
 pub fn frame_len(desc: &Desc, width: u32, height: u32) -> u64
-    requires desc { IsValid desc.now }
+    requires valid { IsValid desc.now }
     requires width { width ≤ 16384 }
     requires height { height ≤ 16384 }
     ensures value { result ≡ frame_length desc.now width height }
@@ -62,7 +62,7 @@ pub fn frame_len(desc: &Desc, width: u32, height: u32) -> u64
 /// Where a row of a plane begins in a raw frame, counted in bytes from the frame's first. The row is in the frame.
 #[tactic(auto, unfolding(pix_desc::specs::Frame::row_start))]
 pub fn row_start(desc: &Desc, width: u32, height: u32, plane: u8, row: u32) -> u64
-    requires desc { IsValid desc.now }
+    requires valid { IsValid desc.now }
     requires width { width ≤ 16384 }
     requires height { height ≤ 16384 }
     requires plane { plane < 4 }
@@ -72,3 +72,6 @@ pub fn row_start(desc: &Desc, width: u32, height: u32, plane: u8, row: u32) -> u
 {
     len_before(desc, width, height, plane) + u64::from(row) * row_len(desc, width, plane)
 }
+
+#[cfg(test)]
+mod tests;

@@ -16,6 +16,7 @@ impl<R: Read> ReadSource<R> {
     pub fn new(inner: R) -> Self
         ensures left { ⟦<ReadSource<R> as Source>⟧.left result ≡ R.remaining inner }
         ensures faults { ⟦<ReadSource<R> as Source>⟧.faults result ≡ 0 }
+        ensures made { ⟦<ReadSource<R> as Source>⟧.made_with result ≡ [] }
     {
         ReadSource { inner, faults: 0 }
     }
@@ -52,6 +53,7 @@ impl<W: Write> WriteSink<W> {
     pub fn new(inner: W) -> Self
         ensures written { ⟦<WriteSink<W> as Sink>⟧.written result ≡ W.contents inner }
         ensures faults { ⟦<WriteSink<W> as Sink>⟧.faults result ≡ 0 }
+        ensures made { ⟦<WriteSink<W> as Sink>⟧.made_with result ≡ [] }
     {
         WriteSink { inner, faults: 0 }
     }
@@ -74,3 +76,6 @@ impl<W: Write> Sink for WriteSink<W> {
         }
     }
 }
+
+#[cfg(test)]
+mod tests;

@@ -58,3 +58,6 @@ pub fn write_all<K: Sink>(output: &mut K, piece: &[u8]) -> Result<(), Failed>
     }
     Ok(())
 }
+
+#[cfg(test)]
+mod tests;

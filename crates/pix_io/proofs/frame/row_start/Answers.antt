@@ -1,14 +1,14 @@
-use Rattle.std.proofs.Common.{rules, refl, arith}
+use Rattle.std.proofs.Common.{arith}
 use Rattle.pix_desc.specs.Frame.{row_start}
 use Rattle.pix_desc.proofs.Valid.{laid_out}
 use Rattle.pix_io.proofs.Frames.{row_start-inside}
 use Rattle.pix_io.proofs.frame.row_start.Goals as goal
 
-pub len_before-requires-clause-desc : goal.len_before-requires-clause-desc
-len_before-requires-clause-desc c = laid_out c.args.desc.now c.requires.desc
+pub len_before-requires-clause-laid_out : goal.len_before-requires-clause-laid_out
+len_before-requires-clause-laid_out c = laid_out c.args.desc.now c.requires.valid
 
 pub row_len-requires : goal.row_len-requires
-row_len-requires c = laid_out c.args.desc.now c.requires.desc
+row_len-requires c = laid_out c.args.desc.now c.requires.valid
 
 pub returns-clause-inside : goal.returns-clause-inside
 unfolding row_start
