@@ -1,9 +1,9 @@
 // What holds of the whole table.
-ghost use Rattle.std.specs.Prelude.{◌≡◌, ℕ, ◌-◌, ◌<◌, ◌++◌, replicate, All, Ok, Err, codes, nat_eq};
+ghost use Rattle.std.specs.Prelude.{◌≡◌, ℕ, ◌<◌, All, Ok, Err, codes, nat_eq};
 ghost use Rattle.std.specs.List.{ends_with};
-ghost use Rattle.pix_desc.specs.Component.{components, no_component};
+ghost use Rattle.pix_desc.specs.Component.{components};
 ghost use Rattle.pix_desc.specs.Layouts.{checked};
-ghost use Rattle.desc_table.specs.Format.{format_count, desc_of, name_of};
+ghost use Rattle.desc_table.specs.Format.{format_count, four_entries, desc_of, name_of};
 ghost use Rattle.desc_table.specs.Layout.{layout_of};
 ghost use Rattle.desc_table.specs.Refused.{refused, found};
 
@@ -24,7 +24,7 @@ pub fn byte_orders()
     ensures { (row : ℕ) → row < format_count → (desc_of row).be ≡ ends_with nat_eq (name_of row) (codes "be") }
 {}
 
-/// Every descriptor has its components and then zeros, four entries in all.
+/// The entries of every descriptor are its components, and zeros behind them.
 pub fn spare_entries()
-    ensures { (row : ℕ) → row < format_count → (desc_of row).comps ≡ components (desc_of row) ++ replicate (4 - (desc_of row).count) no_component }
+    ensures { (row : ℕ) → row < format_count → (desc_of row).comps ≡ four_entries (components (desc_of row)) }
 {}
