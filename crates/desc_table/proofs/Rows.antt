@@ -13,6 +13,7 @@ use Rattle.desc_table.specs.Layout.{layout_of, word_formats}
 use Rattle.desc_table.specs.Row.{format_of}
 use Rattle.desc_table.specs.declared.table.Row.{Row}
 
+-- the table has as many formats as it says
 pub length-formats : length formats ≡ format_count
 unfolding formats
 length-formats = refl
@@ -62,6 +63,7 @@ pub spare_computed : map (λ format. format.desc.comps) formats ≡ map (λ form
 unfolding formats
 spare_computed = refl
 
+-- every format passes the check, with the layout that is said of its name
 layouts_computed : map (λ format. checked format.desc) formats ≡ map (λ format. Ok (layout_of format.name)) formats
 unfolding formats checked layout_of word_formats
 layouts_computed = refl
