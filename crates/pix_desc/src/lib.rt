@@ -12,4 +12,4 @@ mod word;
 pub use desc::{Comp, Desc, DescFault, Layout};
 pub use checks::check;
 pub use component::{read_comp, write_comp};
-pub use laws::passes_laid_out;
+pub use laws::{component_has_its_bits, other_components_stay, passes_laid_out};
