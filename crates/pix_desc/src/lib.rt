@@ -9,7 +9,10 @@ mod layout;
 mod place;
 mod word;
 
-pub use desc::{Comp, Desc, DescFault, Layout};
 pub use checks::check;
 pub use component::{read_comp, write_comp};
+pub use desc::{Comp, Desc, DescFault, Layout};
 pub use laws::{component_has_its_bits, other_components_stay, passes_laid_out};
+
+#[cfg(test)]
+mod tests;
