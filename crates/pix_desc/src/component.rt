@@ -4,10 +4,9 @@ ghost use Rattle.std.specs.Int.{bit_at};
 ghost use Rattle.pix_desc.specs.Component.{component_of, is_narrow, bytes_read, start_of, number_at, component, KeepsOtherBits};
 ghost use Rattle.pix_desc.specs.Layouts.{IsValid};
 
-use byteorder::{BigEndian, ByteOrder, LittleEndian};
-
 use crate::place::{first_place, is_narrow};
 use crate::{Comp, Desc};
+use byteorder::{BigEndian, ByteOrder, LittleEndian};
 
 /// Where in a row the first byte stands that the component of pixel `x` is read from.
 fn start_of(desc: &Desc, comp: &Comp, x: u32) -> usize
@@ -48,6 +47,14 @@ fn set_number_at(desc: &Desc, comp: &Comp, row: &mut [u8], at: usize, number: u1
     }
 }
 
+/// The `depth` bits of the number from `shift` on.
+fn bits_of(number: u16, shift: u8, depth: u8) -> u32
+    requires { shift + depth ≤ 16 }
+    ensures { result ≡ number / 2 ^ shift % 2 ^ depth }
+{
+    (u32::from(number) >> shift) & ((1 << depth) - 1)
+}
+
 /// The number with `value` in place of its `depth` bits from `shift` on.
 fn with_bits(number: u16, shift: u8, depth: u8, value: u16) -> u16
     requires deep { 0 < depth }
@@ -55,8 +62,8 @@ fn with_bits(number: u16, shift: u8, depth: u8, value: u16) -> u16
     requires small { value < 2 ^ depth }
     ensures value { result / 2 ^ shift % 2 ^ depth ≡ value }
     ensures below { (i : ℕ) → i < shift → bit_at result i ≡ bit_at number i }
-    ensures narrow { shift + depth ≤ 8 → number < 2 ^ 8 → result < 2 ^ 8 }
     ensures above { (i : ℕ) → shift + depth ≤ i → bit_at result i ≡ bit_at number i }
+    ensures narrow { shift + depth ≤ 8 → number < 2 ^ 8 → result < 2 ^ 8 }
 {
     let ones = ((1u32 << depth) - 1) as u16;
     (number & !(ones << shift)) | (value << shift)
@@ -72,7 +79,7 @@ pub fn read_comp(desc: &Desc, j: u8, row: &[u8], x: u32) -> u32
 {
     let comp = desc.comps[j as usize];
     let number = number_at(desc, &comp, row, start_of(desc, &comp, x));
-    (u32::from(number) >> comp.shift) % (1 << comp.depth)
+    bits_of(number, comp.shift, comp.depth)
 }
 
 /// Writes the value of component `j` of pixel `x` of a plane's row.
@@ -87,5 +94,6 @@ pub fn write_comp(desc: &Desc, j: u8, row: &mut [u8], x: u32, v: u32)
     let comp = desc.comps[j as usize];
     let at = start_of(desc, &comp, x);
     let number = number_at(desc, &comp, row, at);
-    set_number_at(desc, &comp, row, at, with_bits(number, comp.shift, comp.depth, v as u16));
+    let changed = with_bits(number, comp.shift, comp.depth, v as u16);
+    set_number_at(desc, &comp, row, at, changed);
 }
