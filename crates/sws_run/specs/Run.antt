@@ -46,8 +46,8 @@ pub record GivesOutOfMemory (asked : Result Task Ended) (left written written' :
 
 -- Notes: nothing is written to them, and none of their calls fails.
 pub record KeepsNotes (written written' : Option (List ℕ)) (faults faults' : ℕ) : Type 0 where
-  pub written : written' ≡ written
-  pub faults : faults' ≡ faults
+  pub bytes : written' ≡ written
+  pub count : faults' ≡ faults
 
 -- Completeness: where no count rose, the ending is decided or want of memory; a failed read or write is never passed over; what the
 -- source and the sink were made with is as it was.
@@ -56,5 +56,5 @@ pub record IsComplete (reads reads' writes writes' : ℕ) (source source' sink s
   pub written : UnlessWriteFault ended (writes' ≡ writes)
   pub read_fault : (Rose reads reads' → ⊥) → IfReadFault ended (λ frames. ⊥)
   pub write_fault : (Rose writes writes' → ⊥) → IfWriteFault ended (λ frames. ⊥)
-  pub source : source' ≡ source
-  pub sink : sink' ≡ sink
+  pub source_made : source' ≡ source
+  pub sink_made : sink' ≡ sink

@@ -1,5 +1,6 @@
 // What a conversion between two packed RGB formats means.
 ghost use Rattle.std.specs.Prelude.{◌≡◌, ℕ, List};
+ghost use Rattle.pix_desc.specs.Layouts.{IsValid};
 ghost use Rattle.pix_desc.specs.declared.desc.Desc.{Desc};
 ghost use Rattle.sws_run.specs.Meaning.{is_packed_rgb, IsTargetFrameLaw};
 
@@ -7,14 +8,19 @@ use pix_desc::Desc;
 
 /// Whether a format is RGB in one plane with components of whole bytes.
 pub fn is_packed_rgb(desc: &Desc) -> bool
+    requires { IsValid desc.now }
     ensures { result ≡ is_packed_rgb desc.now }
 {
-    let count = usize::from(desc.count).min(desc.comps.len());
-    desc.rgb
-        && !desc.be
-        && desc.comps[..count]
-            .iter()
-            .all(|comp| comp.plane == 0 && comp.shift == 0 && comp.depth == 8)
+    if !desc.rgb || desc.be {
+        return false;
+    }
+    for j in 0..desc.count {
+        let comp = desc.comps[usize::from(j)];
+        if comp.plane != 0 || comp.shift != 0 || comp.depth != 8 {
+            return false;
+        }
+    }
+    true
 }
 
 /// The law of the target frame: `target_frame` reads back as wanted, has no other bit set, and is the only such frame.

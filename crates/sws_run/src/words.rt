@@ -1,5 +1,6 @@
 // The command line: raw IN OUT WxH.
 ghost use Rattle.std.specs.Prelude.{◌≡◌, map, string_bytes, IfOk, IfErr};
+ghost use Rattle.desc_table.specs.Refused.{found};
 ghost use Rattle.sws_run.specs.Ending.{IsRefusal};
 ghost use Rattle.sws_run.specs.Line.{number_of, size_of, is_frame_size, packed, task_of, IsSound};
 
