@@ -5,6 +5,7 @@ use Rattle.std.specs.Char.{is_ascii_digit}
 use Rattle.std.specs.Str.{bytes_eq}
 use Rattle.desc_table.specs.declared.fault.FormatFault.{FormatFault}
 use Rattle.desc_table.specs.declared.fault.FormatFault.TheVariants.{OtherUnsupported}
+use Rattle.pix_desc.specs.Layouts.{IsValid}
 use Rattle.desc_table.specs.Format.{desc_of}
 use Rattle.desc_table.specs.Refused.{found}
 use Rattle.sws_run.specs.declared.words.Task.{Task}
@@ -64,6 +65,8 @@ task_of _ = Err (Usage Words)
 pub record IsSound (task : Task) : Type 0 where
   pub source : is_packed_rgb (desc_of task.source) ≡ true
   pub target : is_packed_rgb (desc_of task.target) ≡ true
+  pub source_valid : IsValid (desc_of task.source)
+  pub target_valid : IsValid (desc_of task.target)
   pub width_least : 1 ≤ task.width
   pub width_most : task.width ≤ 16384
   pub height_least : 1 ≤ task.height

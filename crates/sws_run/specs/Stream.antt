@@ -26,11 +26,14 @@ cut_end task bytes =
     let k = frame_count task bytes in
     if k * source_length task == length bytes then Done k else (if k == 1000000 then TooManyFrames else Stream Truncated k)
 
+-- the target frame of a frame of the input
+unfoldable pub target_of : Task → List ℕ → List ℕ
+target_of task frame = target_frame (desc_of task.source) (desc_of task.target) task.width task.height frame
+
 -- the target frames of the first k frames
 unfoldable pub target_frames : Task → List ℕ → ℕ → List ℕ
 target_frames task bytes zero = []
-target_frames task bytes (suc k) =
-    target_frames task bytes k ++ target_frame (desc_of task.source) (desc_of task.target) task.width task.height (frame_at task bytes k)
+target_frames task bytes (suc k) = target_frames task bytes k ++ target_of task (frame_at task bytes k)
 
 -- How many frames a run over these bytes converts. A run is asked for a task, or its words are refused.
 abbrev pub frames_of : Result Task Ended → List ℕ → ℕ

@@ -1,19 +1,18 @@
 // What a conversion between two packed RGB formats means.
 ghost use Rattle.std.specs.Prelude.{◌≡◌, ℕ, List};
-ghost use Rattle.pix_desc.specs.Layouts.{IsValid};
+ghost use Rattle.std.specs.List.{list_all};
+ghost use Rattle.pix_desc.specs.Layouts.{IsValid, IsLaidOut};
+ghost use Rattle.pix_desc.specs.Component.{components};
 ghost use Rattle.pix_desc.specs.declared.desc.Desc.{Desc};
-ghost use Rattle.sws_run.specs.Meaning.{is_packed_rgb, IsTargetFrameLaw};
+ghost use Rattle.sws_run.specs.Meaning.{is_packed_rgb, is_whole_byte, IsTargetFrameLaw};
 
 use pix_desc::Desc;
 
-/// Whether a format is RGB in one plane with components of whole bytes.
-pub fn is_packed_rgb(desc: &Desc) -> bool
-    requires { IsValid desc.now }
-    ensures { result ≡ is_packed_rgb desc.now }
+// Whether all components are bytes of plane 0.
+fn has_whole_bytes(desc: &Desc) -> bool
+    requires { IsLaidOut desc.now }
+    ensures { result ≡ list_all is_whole_byte (components desc.now) }
 {
-    if !desc.rgb || desc.be {
-        return false;
-    }
     for j in 0..desc.count {
         let comp = desc.comps[usize::from(j)];
         if comp.plane != 0 || comp.shift != 0 || comp.depth != 8 {
@@ -21,6 +20,14 @@ pub fn is_packed_rgb(desc: &Desc) -> bool
         }
     }
     true
+}
+
+/// Whether a format is RGB in one plane with components of whole bytes.
+pub fn is_packed_rgb(desc: &Desc) -> bool
+    requires { IsValid desc.now }
+    ensures { result ≡ is_packed_rgb desc.now }
+{
+    desc.rgb && !desc.be && has_whole_bytes(desc)
 }
 
 /// The law of the target frame: `target_frame` reads back as wanted, has no other bit set, and is the only such frame.
