@@ -1,18 +1,19 @@
 -- Facts about every row of the table, each from one computed test.
 use Rattle.std.proofs.Common.{◌≡◌, ℕ, ◌<◌, List, map, length, slice_index_or, get_or, sym, ◌∙◌, ap, refl, arith}
-use Rattle.std.specs.Prelude.{◌++◌, ◌-◌, Result, Ok, Err, replicate, codes, nat_eq}
+use Rattle.std.specs.Prelude.{Result, Ok, Err, codes, nat_eq}
 use Rattle.std.specs.List.{range_with_len, ends_with}
 use Rattle.std.proofs.lemmas.List.FromFn.{get_or-map-range_with_len}
-use Rattle.pix_desc.specs.Component.{components, no_component}
+use Rattle.pix_desc.specs.Component.{components}
 use Rattle.std.proofs.lemmas.List.{get_or-map, length-map}
 use Rattle.pix_desc.specs.Layouts.{checked, IsValid}
-use Rattle.desc_table.specs.Format.{Format, formats, format_count, format_at, no_format}
+use Rattle.desc_table.specs.Format.{Format, four_entries, formats, format_count, format_at, no_format}
 use Rattle.desc_table.specs.Refused.{refused, found}
 use Rattle.desc_table.specs.declared.fault.FormatFault.{FormatFault}
 use Rattle.desc_table.specs.Layout.{layout_of, word_formats}
 use Rattle.desc_table.specs.Row.{format_of}
 use Rattle.desc_table.specs.declared.table.Row.{Row}
 
+-- the table has as many formats as it says
 pub length-formats : length formats ≡ format_count
 unfolding formats
 length-formats = refl
@@ -58,10 +59,11 @@ unfolding formats
 orders_computed = refl
 
 -- the entries that a descriptor does not count are zero
-pub spare_computed : map (λ format. format.desc.comps) formats ≡ map (λ format. components format.desc ++ replicate (4 - format.desc.count) no_component) formats
+pub spare_computed : map (λ format. format.desc.comps) formats ≡ map (λ format. four_entries (components format.desc)) formats
 unfolding formats
 spare_computed = refl
 
+-- every format passes the check, with the layout that is said of its name
 layouts_computed : map (λ format. checked format.desc) formats ≡ map (λ format. Ok (layout_of format.name)) formats
 unfolding formats checked layout_of word_formats
 layouts_computed = refl

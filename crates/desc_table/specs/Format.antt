@@ -1,6 +1,6 @@
 -- The pixel formats, their names and descriptors (FFmpeg, libavutil/pixdesc.c, av_pix_fmt_descriptors).
 use Prim.Native.String.{String}
-use Rattle.std.specs.Prelude.{ℕ, ◌*◌, ℤ, pos, negsuc, Bool, true, false, List, [], ◌∷◌, ◌++◌, take, map, length, slice_index_or, nat_le, codes, if◌then◌else◌}
+use Rattle.std.specs.Prelude.{ℕ, ◌-◌, ◌*◌, ℤ, pos, negsuc, Bool, true, false, List, [], ◌∷◌, ◌++◌, map, length, replicate, slice_index_or, nat_le, codes, if◌then◌else◌}
 use Rattle.pix_desc.specs.declared.desc.Comp.{Comp}
 use Rattle.pix_desc.specs.declared.desc.Desc.{Desc}
 use Rattle.pix_desc.specs.Component.{no_component}
@@ -36,11 +36,15 @@ semi_planar shift depth u v =
     let bytes = bytes_of depth in
     comp 0 bytes (pos 0) shift depth ∷ comp 1 (2 * bytes) (pos u) shift depth ∷ comp 1 (2 * bytes) (pos v) shift depth ∷ []
 
--- the little-endian descriptor with these components: rgb, alpha, palette
+-- the four entries of a descriptor: its components, and zeros behind them
+abbrev pub four_entries : List Comp → List Comp
+four_entries comps = comps ++ replicate (4 - length comps) no_component
+
+-- the little-endian descriptor with these flags (RGB, alpha, palette) and components
 abbrev pub described : Bool → Bool → Bool → List Comp → Desc
 described rgb alpha palette comps = record {
   count = length comps;
-  comps = take 4 (comps ++ no_component ∷ no_component ∷ no_component ∷ no_component ∷ []);
+  comps = four_entries comps;
   be = false;
   rgb = rgb;
   alpha = alpha;

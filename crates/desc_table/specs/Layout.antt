@@ -1,11 +1,9 @@
 -- The layout of each format's pixels.
 use Prim.Native.String.{String}
-use Rattle.std.specs.Prelude.{◌≡◌, ℕ, ◌<◌, List, [], ◌∷◌, codes, bytes_eq, Ok, if◌then◌else◌}
+use Rattle.std.specs.Prelude.{ℕ, List, [], ◌∷◌, codes, bytes_eq, if◌then◌else◌}
 use Rattle.std.specs.List.{list_any}
 use Rattle.pix_desc.specs.declared.desc.Layout.{Layout}
 use Rattle.pix_desc.specs.declared.desc.Layout.TheVariants.{Elements, Word}
-use Rattle.pix_desc.specs.Layouts.{checked}
-use Rattle.desc_table.specs.Format.{name_of, desc_of}
 
 -- the formats whose pixel is one number that is cut into fields
 unfoldable pub word_formats : List String

@@ -10,7 +10,7 @@ use crate::table::{row_at, row_count};
 use pix_desc::Desc;
 use std::marker::Model;
 
-/// A format of the table.
+/// A format of the table. In a clause it is its row, counted from 0.
 #[derive(Clone, Copy, Debug, PartialEq, Eq)]
 pub struct FormatId {
     row: u8,
@@ -26,7 +26,7 @@ impl Model for FormatId {
     ghost inverse = { λ row. record { row = row } };
 }
 
-/// The format of this name, or why there is none.
+/// The format of this name, or why there is none. It allocates nothing, and compares some nine names.
 pub fn find(name: &str) -> Result<FormatId, FormatFault>
     ensures value { result ≡ found name.now }
     ensures below { IfOk result (λ id. id < format_count) }

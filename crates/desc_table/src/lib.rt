@@ -6,6 +6,8 @@ mod id;
 mod laws;
 mod names;
 mod table;
+#[cfg(test)]
+mod tests;
 
 pub use fault::FormatFault;
 pub use id::{FormatId, at, count, desc, find, index, name};

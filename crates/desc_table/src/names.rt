@@ -1,5 +1,5 @@
 // Every known name, and what it finds.
-ghost use Rattle.std.specs.Prelude.{◌≡◌, true, map, bytes_eq};
+ghost use Rattle.std.specs.Prelude.{◌≡◌, IsTrue, map, bytes_eq};
 ghost use Rattle.std.specs.List.{list_all, list_any};
 ghost use Rattle.desc_table.specs.Refused.{found};
 ghost use Rattle.desc_table.specs.Names.{rises, known_names};
@@ -231,11 +231,11 @@ static NAMES: [Known; 218] = [
     ("yvyu422", Err(Subsampled)),
 ];
 
-// The table, whose order the search needs, and whose answers are those of each name that is known.
+// Each name comes before the next, each has what it finds, and every known name is there.
 fn names() -> &'static [Known]
-    ensures ordered { rises (map (λ known. known.0.now) result.now) ≡ true }
+    ensures ordered { IsTrue (rises (map (λ known. known.0.now) result.now)) }
     ensures answers { map (λ known. found known.0.now) result.now ≡ map (λ known. known.1) result.now }
-    ensures complete { list_all (λ name. list_any (λ known. bytes_eq known.0.now name) result.now) known_names ≡ true }
+    ensures complete { IsTrue (list_all (λ name. list_any (λ known. bytes_eq known.0.now name) result.now) known_names) }
 {
     &NAMES
 }
