@@ -24,6 +24,7 @@ use Rattle.sws_run.specs.declared.ended.StreamFault.TheVariants.{Truncated}
 use Rattle.pix_io.specs.Streams.{AppendsPart}
 use Rattle.sws_run.specs.Line.{IsSound}
 use Rattle.sws_run.specs.Stream.{source_length, frame_count, frame_at, target_of, target_frames, cut_end}
+use Rattle.sws_run.specs.Meaning.{target_frame}
 use Rattle.sws_run.proofs.Taken.{HasTaken}
 
 -- ---- a fact about known bytes
@@ -177,7 +178,17 @@ frame-some desc width height valid wide high =
 
 pub frame_some : (task : Task) → IsSound task → 0 < source_length task
 unfolding source_length
-frame_some task sound = frame-some (desc_of task.source) task.width task.height sound.source_valid (omega (arith, sound.width_least)) (omega (arith, sound.height_least))
+frame_some task sound = frame-some (desc_of task.source) task.width task.height sound.source.valid (omega (arith, sound.width_least)) (omega (arith, sound.height_least))
+
+pub source_length_is : (task : Task) → source_length task ≡ frame_length (desc_of task.source) task.width task.height
+unfolding source_length
+source_length_is task = refl
+
+pub target_is : (task : Task) (source target : Desc) (frame out : List ℕ) → source ≡ desc_of task.source → target ≡ desc_of task.target
+    → out ≡ target_frame source target task.width task.height frame → out ≡ target_of task frame
+unfolding target_of
+target_is task source target frame out es et e =
+    e ∙ ap (λ d. target_frame d target task.width task.height frame) es ∙ ap (λ d. target_frame (desc_of task.source) d task.width task.height frame) et
 
 pub at_end : (task : Task) (a b c : Option (List ℕ)) (k : ℕ) → 0 < source_length task → k ≤ 1000000 → HasTaken a b (k * source_length task) → Consumes b c [] → IsAtEnd c
     → IfSome a (λ x. (frame_count task x ≡ k) × (Done k ≡ cut_end task x))

@@ -61,12 +61,15 @@ abbrev pub task_of : List (List ℕ) → Result Task Ended
 task_of (form ∷ source ∷ target ∷ size ∷ []) = if bytes_eq form (codes "raw") then sized (size_of size) source target else Err (Usage Words)
 task_of _ = Err (Usage Words)
 
+-- what every format of a task has
+pub record IsPackedFormat (id : ℕ) : Type 0 where
+  pub packed : is_packed_rgb (desc_of id) ≡ true
+  pub valid : IsValid (desc_of id)
+
 -- what every task has: packed formats, and a frame's size
 pub record IsSound (task : Task) : Type 0 where
-  pub source : is_packed_rgb (desc_of task.source) ≡ true
-  pub target : is_packed_rgb (desc_of task.target) ≡ true
-  pub source_valid : IsValid (desc_of task.source)
-  pub target_valid : IsValid (desc_of task.target)
+  pub source : IsPackedFormat task.source
+  pub target : IsPackedFormat task.target
   pub width_least : 1 ≤ task.width
   pub width_most : task.width ≤ 16384
   pub height_least : 1 ≤ task.height

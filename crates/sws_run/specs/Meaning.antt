@@ -13,7 +13,7 @@ is_whole_byte c = nat_eq c.plane 0 && nat_eq c.shift 0 && nat_eq c.depth 8
 
 -- an RGB format of one plane whose components are whole bytes
 abbrev pub is_packed_rgb : Desc → Bool
-is_packed_rgb desc = desc.rgb && not desc.be && list_all is_whole_byte (components desc)
+is_packed_rgb desc = desc.rgb && (not desc.be && (not desc.palette && list_all is_whole_byte (components desc)))
 
 -- the value of the target's component j at a pixel: that of the source's component j, which is the same colour, or opaque alpha where the source has none
 abbrev pub wanted : Desc → ℕ → ℕ → List ℕ → ℕ → ℕ → ℕ → ℕ

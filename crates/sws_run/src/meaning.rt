@@ -6,16 +6,22 @@ ghost use Rattle.pix_desc.specs.Component.{components};
 ghost use Rattle.pix_desc.specs.declared.desc.Desc.{Desc};
 ghost use Rattle.sws_run.specs.Meaning.{is_packed_rgb, is_whole_byte, IsTargetFrameLaw};
 
-use pix_desc::Desc;
+use pix_desc::{Comp, Desc};
 
-// Whether all components are bytes of plane 0.
+// Whether a component is a byte of plane 0.
+fn is_whole_byte(comp: &Comp) -> bool
+    ensures { result ≡ is_whole_byte comp.now }
+{
+    comp.plane == 0 && comp.shift == 0 && comp.depth == 8
+}
+
+// Whether all components are.
 fn has_whole_bytes(desc: &Desc) -> bool
     requires { IsLaidOut desc.now }
     ensures { result ≡ list_all is_whole_byte (components desc.now) }
 {
     for j in 0..desc.count {
-        let comp = desc.comps[usize::from(j)];
-        if comp.plane != 0 || comp.shift != 0 || comp.depth != 8 {
+        if !is_whole_byte(&desc.comps[j as usize]) {
             return false;
         }
     }
@@ -27,7 +33,7 @@ pub fn is_packed_rgb(desc: &Desc) -> bool
     requires { IsValid desc.now }
     ensures { result ≡ is_packed_rgb desc.now }
 {
-    desc.rgb && !desc.be && has_whole_bytes(desc)
+    desc.rgb && !desc.be && !desc.palette && has_whole_bytes(desc)
 }
 
 /// The law of the target frame: `target_frame` reads back as wanted, has no other bit set, and is the only such frame.

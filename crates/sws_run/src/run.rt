@@ -15,7 +15,6 @@ use pix_io::{Got, Sink, Source, read_whole, write_all};
 const MAX_FRAMES: u32 = 1_000_000;
 
 /// Converts the frames of the input one after the other, in a buffer for a source frame and one for its target frame.
-#[tactic(none)]
 pub fn convert_frames<S: Source, K: Sink>(
     task: &Task,
     input: &mut S,

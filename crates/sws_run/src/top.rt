@@ -31,7 +31,6 @@ fn zeros(alloc: Global, len: u64) -> Result<Vec<u8>, OutOfMemory>
 /// and writes it to the output. Nothing is written to `notes` yet.
 ///
 /// The six clauses are records in `specs/Run.antt`.
-#[tactic(none)]
 pub fn run_sws<R: Threads + Sync, S: Source, K: Sink, L: Sink, G: Gate>(
     _rt: &R,
     alloc: Global,

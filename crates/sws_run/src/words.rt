@@ -2,7 +2,7 @@
 ghost use Rattle.std.specs.Prelude.{◌≡◌, map, string_bytes, IfOk, IfErr};
 ghost use Rattle.desc_table.specs.Refused.{found};
 ghost use Rattle.sws_run.specs.Ending.{IsRefusal};
-ghost use Rattle.sws_run.specs.Line.{number_of, size_of, is_frame_size, packed, task_of, IsSound};
+ghost use Rattle.sws_run.specs.Line.{number_of, size_of, is_frame_size, packed, task_of, IsPackedFormat, IsSound};
 
 use crate::meaning::is_packed_rgb;
 use crate::{Ended, SideName, UsageFault};
@@ -53,7 +53,9 @@ fn is_frame_size(width: u128, height: u128) -> bool
 
 // The format of a name, which is so far to be a packed RGB format.
 fn packed_format(side: SideName, name: &str) -> Result<FormatId, Ended>
-    ensures { result ≡ packed side (found name.now) }
+    ensures value { result ≡ packed side (found name.now) }
+    ensures sound { IfOk result IsPackedFormat }
+    ensures refusal { IfErr result IsRefusal }
 {
     match find(name) {
         Ok(id) if is_packed_rgb(&desc(id)) => Ok(id),
