@@ -1,0 +1,15 @@
+// The converter's run, from the words and bytes in to the bytes out.
+#![tactic(auto)]
+
+mod convert;
+mod ended;
+pub mod meaning;
+mod run;
+mod top;
+mod words;
+
+pub use ended::{Ended, SideName, StreamFault, UsageFault};
+pub use top::{Gate, OpenGate, run_sws};
+
+
+
