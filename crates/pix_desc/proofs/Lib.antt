@@ -1,0 +1,17 @@
+pub mod Bits
+pub mod ReplacedBits
+pub mod Components
+pub mod Kept
+pub mod Pairs
+pub mod Places
+pub mod Planes
+pub mod Valid
+pub mod BitsOfBytes
+pub mod FramePlaces
+pub mod FrameReads
+pub mod FramePixel
+pub mod FramePlanes
+pub mod FrameExists
+pub mod FrameOnly
+pub mod FrameLaws
+pub mod FrameValues

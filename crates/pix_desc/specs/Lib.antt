@@ -1,0 +1,3 @@
+pub mod Component
+pub mod Layouts
+pub mod Frame
