@@ -13,6 +13,7 @@ mod tests;
 pub use dither::dither_at;
 pub use frac::Frac;
 pub use laws::{
-    checked_exactly, dither_is_distinct, dither_is_inside, dither_keeps_whole, dither_repeats,
+    checked_exactly, compared_exactly, dither_is_distinct, dither_is_inside, dither_keeps_whole,
+    dither_repeats,
 };
 pub use memory::OutOfMemory;
