@@ -60,7 +60,7 @@ fn has_count(desc: &Desc) -> bool
 fn is_depth(comp: &Comp) -> bool
     ensures { result ≡ is_depth comp.now }
 {
-    1 <= comp.depth && comp.depth <= 16 && u16::from(comp.shift) + u16::from(comp.depth) <= 16
+    1 <= comp.depth && u16::from(comp.shift) + u16::from(comp.depth) <= 16
 }
 
 /// Whether some component has another depth.
