@@ -1,6 +1,7 @@
 pub mod Bits
 pub mod ReplacedBits
 pub mod Components
+pub mod Kept
 pub mod Pairs
 pub mod Places
 pub mod Planes

@@ -48,6 +48,14 @@ fn set_number_at(desc: &Desc, comp: &Comp, row: &mut [u8], at: usize, number: u1
     }
 }
 
+/// The `depth` bits of the number from `shift` on.
+fn bits_of(number: u16, shift: u8, depth: u8) -> u32
+    requires { shift + depth ≤ 16 }
+    ensures { result ≡ number / 2 ^ shift % 2 ^ depth }
+{
+    (u32::from(number) >> shift) & ((1 << depth) - 1)
+}
+
 /// The number with `value` in place of its `depth` bits from `shift` on.
 fn with_bits(number: u16, shift: u8, depth: u8, value: u16) -> u16
     requires deep { 0 < depth }
@@ -72,7 +80,7 @@ pub fn read_comp(desc: &Desc, j: u8, row: &[u8], x: u32) -> u32
 {
     let comp = desc.comps[j as usize];
     let number = number_at(desc, &comp, row, start_of(desc, &comp, x));
-    (u32::from(number) >> comp.shift) % (1 << comp.depth)
+    bits_of(number, comp.shift, comp.depth)
 }
 
 /// Writes the value of component `j` of pixel `x` of a plane's row.

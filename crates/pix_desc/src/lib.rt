@@ -14,4 +14,4 @@ pub use desc::{Comp, Desc, DescFault, Layout};
 pub use frame::{agreeing_values_frame, has_one_frame, same_values_frame};
 pub use checks::check;
 pub use component::{read_comp, write_comp};
-pub use laws::passes_laid_out;
+pub use laws::{component_has_its_bits, other_components_stay, passes_laid_out};
