@@ -1,5 +1,5 @@
 -- What components read after one was written.
-use Rattle.std.proofs.Common.{◌≡◌, ◌≢◌, ℕ, zero, suc, ◌+◌, ◌*◌, ◌^◌, ◌<◌, ◌≤◌, ℤ, pos, ◌-ℤ◌, true, false, List, [], ◌∷◌, length, get_or, All, ◌⊎◌, inl, inr, refl, sym, ◌∙◌, ap, arith}
+use Rattle.std.proofs.Common.{◌≡◌, ◌≢◌, ℕ, zero, suc, ◌+◌, ◌*◌, ◌<◌, ◌≤◌, pos, ◌-ℤ◌, false, List, [], ◌∷◌, length, get_or, All, ◌⊎◌, inl, inr, refl, sym, ◌∙◌, ap, arith}
 use Rattle.std.specs.Int.{bit_at}
 use Rattle.std.specs.Ordering.{int_eq}
 use Rattle.std.proofs.Math.Nat.{mod-lt}
@@ -10,9 +10,9 @@ use Rattle.std.proofs.lemmas.List.Elements.{All-get_or}
 use Rattle.std.proofs.lemmas.Nat.{pow_pos, same_from_place}
 use Rattle.std.proofs.lemmas.Nat.Bits.{same_from_bits_below}
 use Rattle.pix_desc.specs.declared.desc.Desc.{Desc}
-use Rattle.pix_desc.specs.Component.{component_of, component, count_of, first_byte, is_narrow, bytes_read, bit_of, bit_place, reads_row_bit, KeepsOtherBits}
+use Rattle.pix_desc.specs.Component.{component_of, component, count_of, first_byte, is_narrow, bit_of, bit_place, reads_row_bit, KeepsOtherBits}
 use Rattle.pix_desc.specs.Frame.{plane_step}
-use Rattle.pix_desc.specs.Layouts.{IsValid, IsLaidOut}
+use Rattle.pix_desc.specs.Layouts.{IsValid}
 use Rattle.pix_desc.proofs.Components.{list_any-below_at}
 use Rattle.pix_desc.proofs.Places.{component-bit, bit_place-is, bits_within, place_in, place_in-lt, width_of}
 use Rattle.pix_desc.proofs.Valid.{laid_out}
@@ -26,8 +26,8 @@ past_end (b ∷ row) (suc k) past = past_end row k (omega arith)
 pub byte_at : (row : List ℕ) (k : ℕ) → All (λ byte. byte < 256) row → get_or row k 0 < 256
 byte_at row k bytes =
     elim (cases_lt k (length row)) as (λ _. get_or row k 0 < 256) [
-      inl within ↦ All-get_or (λ byte. byte < 256) row k 0 within bytes
-    | inr past ↦ omega (arith, past_end row k past)
+      | inl within ↦ All-get_or (λ byte. byte < 256) row k 0 within bytes
+      | inr past ↦ omega (arith, past_end row k past)
     ]
 
 -- bit i of component j is the bit of the row at its place
@@ -62,23 +62,23 @@ unread desc i j x y b v listed_i listed_j plane apart below =
     let k = 8 * (y * d.step) + count_of (bit_place desc d b) in
     let start = pos k -ℤ pos (8 * (x * c.step)) in
     false_from_ne_true (reads_row_bit desc i x k) (λ read.
-      let found = list_any-below_at (λ a. int_eq (bit_place desc c a) start) c.depth read in
-      let a = found.0 in
-      let same : bit_place desc c a ≡ start = (Decides-int_eq (bit_place desc c a) start).0 found.2 in
-      let place_c = count_of-bit_place desc i a v listed_i found.1 in
-      let place_d = count_of-bit_place desc j b v listed_j below in
-      let step : c.step ≡ d.step = sym (out.step i listed_i) ∙ ap (plane_step desc) plane ∙ out.step j listed_j in
-      let p = count_of (bit_place desc c a) in
-      let q = count_of (bit_place desc d b) in
-      let width = 8 * d.step in
-      let steps : x * c.step ≡ x * d.step = ap (λ s. x * s) step in
-      let sum : x * width + p ≡ y * width + q = omega (arith, ints, sym place_c.0 ∙ same, steps) in
-      let small : p < width = omega (arith, place_c.1, step) in
-      let one = same_from_place x p y q width small place_d.1 sum in
-      elim apart as (λ _. ⊥) [
-        inr pixels ↦ pixels one.0
+    let found = list_any-below_at (λ a. int_eq (bit_place desc c a) start) c.depth read in
+    let a = found.0 in
+    let same : bit_place desc c a ≡ start = (Decides-int_eq (bit_place desc c a) start).0 found.2 in
+    let place_c = count_of-bit_place desc i a v listed_i found.1 in
+    let place_d = count_of-bit_place desc j b v listed_j below in
+    let step : c.step ≡ d.step = sym (out.step i listed_i) ∙ ap (plane_step desc) plane ∙ out.step j listed_j in
+    let p = count_of (bit_place desc c a) in
+    let q = count_of (bit_place desc d b) in
+    let width = 8 * d.step in
+    let steps : x * c.step ≡ x * d.step = ap (λ s. x * s) step in
+    let sum : x * width + p ≡ y * width + q = omega (arith, ints, sym place_c.0 ∙ same, steps) in
+    let small : p < width = omega (arith, place_c.1, step) in
+    let one = same_from_place x p y q width small place_d.1 sum in
+    elim apart as (λ _. ⊥) [
+      | inr pixels ↦ pixels one.0
       | inl other ↦ out.apart i j a b listed_i listed_j other plane found.1 below (place_c.0 ∙ ap pos one.1 ∙ sym place_d.0)
-      ])
+    ])
 
 -- so a write of one leaves the other as it is
 pub component-kept : (desc : Desc) (i j x y : ℕ) (old new : List ℕ) → IsValid desc → i < desc.count → j < desc.count → (component_of desc i).plane ≡ (component_of desc j).plane → (i ≢ j) ⊎ (x ≢ y)
@@ -86,7 +86,7 @@ pub component-kept : (desc : Desc) (i j x y : ℕ) (old new : List ℕ) → IsVa
 component-kept desc i j x y old new v listed_i listed_j plane apart bytes_old bytes_new kept =
     let d = component_of desc j in
     same_from_bits_below d.depth (component desc j new y) (component desc j old y) (mod-lt _ (pow_pos d.depth)) (mod-lt _ (pow_pos d.depth)) (λ b below.
-      let k = 8 * (y * d.step) + count_of (bit_place desc d b) in
-      bit_at-component desc j y b new v listed_j bytes_new below
-      ∙ kept.bits k (unread desc i j x y b v listed_i listed_j plane apart below)
-      ∙ sym (bit_at-component desc j y b old v listed_j bytes_old below))
+    let k = 8 * (y * d.step) + count_of (bit_place desc d b) in
+    bit_at-component desc j y b new v listed_j bytes_new below
+    ∙ kept.bits k (unread desc i j x y b v listed_i listed_j plane apart below)
+    ∙ sym (bit_at-component desc j y b old v listed_j bytes_old below))

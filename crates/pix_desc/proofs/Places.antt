@@ -1,8 +1,8 @@
 -- The bits of a row that a component reads.
-use Rattle.std.proofs.Common.{◌≡◌, ◌≢◌, ℕ, ◌+◌, ◌-◌, ◌*◌, ◌/◌, ◌%◌, ◌^◌, ◌<◌, ◌≤◌, ℤ, pos, ◌+ℤ◌, ◌*ℤ◌, ◌-ℤ◌, Bool, true, false, not, ◌&&◌, if◌then◌else◌, List, get_or, length, ◌⊎◌, inl, inr, refl, sym, ◌∙◌, ap, rules, arith}
+use Rattle.std.proofs.Common.{◌≡◌, ℕ, ◌+◌, ◌-◌, ◌*◌, ◌/◌, ◌%◌, ◌^◌, ◌<◌, ◌≤◌, pos, ◌+ℤ◌, ◌*ℤ◌, ◌-ℤ◌, Bool, true, false, not, ◌&&◌, if◌then◌else◌, List, get_or, inl, inr, sym, ◌∙◌, ap, arith}
 use Rattle.std.specs.Int.{bit_at}
 use Rattle.std.specs.Ordering.{int_eq}
-use Rattle.std.proofs.lemmas.Bool.{cases_lt, cases_Bool, both_ways}
+use Rattle.std.proofs.lemmas.Bool.{cases_lt, both_ways}
 use Rattle.std.proofs.lemmas.Bool.Decides.{nat_tests, Decides-int_eq}
 use Rattle.std.proofs.lemmas.Int.{ints}
 use Rattle.std.proofs.lemmas.Nat.Bits.{bit_at_cat_low, bit_at_cat_high}
@@ -47,16 +47,16 @@ bit_at-number_of false true row at m first second within =
     let b = get_or row (at + 1) 0 in
     let k = 8 * at + place_in false true m in
     elim (cases_lt m 8) as (λ _. bit_at (256 * a + b) m ≡ bit_of row k) [
-      inl below ↦ low_of a b m below ∙ sym (bit_of-is row k (at + 1) m (omega arith) (omega arith))
-    | inr from ↦ high_of a b m second from ∙ sym (bit_of-is row k at (m - 8) (omega arith) (omega arith))
+      | inl below ↦ low_of a b m below ∙ sym (bit_of-is row k (at + 1) m (omega arith) (omega arith))
+      | inr from ↦ high_of a b m second from ∙ sym (bit_of-is row k at (m - 8) (omega arith) (omega arith))
     ]
 bit_at-number_of false false row at m first second within =
     let a = get_or row at 0 in
     let b = get_or row (at + 1) 0 in
     let k = 8 * at + place_in false false m in
     ap (λ n. bit_at n m) (turned a b) ∙ elim (cases_lt m 8) as (λ _. bit_at (256 * b + a) m ≡ bit_of row k) [
-      inl below ↦ low_of b a m below ∙ sym (bit_of-is row k at m (omega arith) (omega arith))
-    | inr from ↦ high_of b a m first from ∙ sym (bit_of-is row k (at + 1) (m - 8) (omega arith) (omega arith))
+      | inl below ↦ low_of b a m below ∙ sym (bit_of-is row k at m (omega arith) (omega arith))
+      | inr from ↦ high_of b a m first from ∙ sym (bit_of-is row k (at + 1) (m - 8) (omega arith) (omega arith))
     ]
 
 -- each bit of the bytes that are read is one of the number, and no bit lies outside them
@@ -114,30 +114,30 @@ kept_bit desc c x old new first bits bytes_old bytes_new before behind below abo
     let f = count_of (first_byte desc c) in
     let goal : Type 0 = bit_of new k ≡ bit_of old k in
     elim (cases_lt (k / 8) at) as (λ _. goal) [
-      inl early ↦ ap (λ b. bit_at b (k % 8)) (before (k / 8) early)
-    | inr late ↦ elim (cases_lt (k / 8) (at + bytes_read c)) as (λ _. goal) [
-        inr past ↦ ap (λ b. bit_at b (k % 8)) (behind (k / 8) past)
-      | inl early ↦
-          let q = k - 8 * at in
-          let m = place_in narrow be q in
-          let within : q < width_of narrow = omega arith in
-          let within_number : m < width_of narrow = place_in-lt narrow be q within in
-          let back = place_in-place_in narrow be q within in
-          let here : k ≡ 8 * at + place_in narrow be m = omega (arith, back) in
-          let bit_old : bit_at (number_at desc c old at) m ≡ bit_of old k = bit_at-number_of narrow be old at m (bytes_old at) (bytes_old (at + 1)) within_number ∙ ap (bit_of old) (sym here) in
-          let bit_new : bit_at (number_at desc c new at) m ≡ bit_of new k = bit_at-number_of narrow be new at m (bytes_new at) (bytes_new (at + 1)) within_number ∙ ap (bit_of new) (sym here) in
-          elim (cases_lt m c.shift) as (λ _. goal) [
-            inl low ↦ sym bit_new ∙ below m low ∙ bit_old
-          | inr from ↦ elim (cases_lt m (c.shift + c.depth)) as (λ _. goal) [
-              inr high ↦ sym bit_new ∙ above m high ∙ bit_old
-            | inl inside ↦
-                let i = m - c.shift in
-                let bit : c.shift + i ≡ m = omega arith in
-                let place = bit_place-is desc c i f first ∙ ap (λ n. pos (8 * f + place_in narrow be n)) bit in
-                let read : bit_place desc c i ≡ pos k -ℤ pos (8 * (x * c.step)) = omega (arith, ints, place, back) in
-                let missed = list_any-below_false (λ n. int_eq (bit_place desc c n) (pos k -ℤ pos (8 * (x * c.step)))) c.depth i unread (omega arith) in
-                absurd (both_ways (int_eq (bit_place desc c i) (pos k -ℤ pos (8 * (x * c.step)))) missed ((Decides-int_eq (bit_place desc c i) (pos k -ℤ pos (8 * (x * c.step)))).1 read))
+      | inl early ↦ ap (λ b. bit_at b (k % 8)) (before (k / 8) early)
+      | inr late ↦ elim (cases_lt (k / 8) (at + bytes_read c)) as (λ _. goal) [
+        | inr past ↦ ap (λ b. bit_at b (k % 8)) (behind (k / 8) past)
+        | inl early ↦
+            let q = k - 8 * at in
+            let m = place_in narrow be q in
+            let within : q < width_of narrow = omega arith in
+            let within_number : m < width_of narrow = place_in-lt narrow be q within in
+            let back = place_in-place_in narrow be q within in
+            let here : k ≡ 8 * at + place_in narrow be m = omega (arith, back) in
+            let bit_old : bit_at (number_at desc c old at) m ≡ bit_of old k = bit_at-number_of narrow be old at m (bytes_old at) (bytes_old (at + 1)) within_number ∙ ap (bit_of old) (sym here) in
+            let bit_new : bit_at (number_at desc c new at) m ≡ bit_of new k = bit_at-number_of narrow be new at m (bytes_new at) (bytes_new (at + 1)) within_number ∙ ap (bit_of new) (sym here) in
+            elim (cases_lt m c.shift) as (λ _. goal) [
+              | inl low ↦ sym bit_new ∙ below m low ∙ bit_old
+              | inr from ↦ elim (cases_lt m (c.shift + c.depth)) as (λ _. goal) [
+                | inr high ↦ sym bit_new ∙ above m high ∙ bit_old
+                | inl inside ↦
+                    let i = m - c.shift in
+                    let bit : c.shift + i ≡ m = omega arith in
+                    let place = bit_place-is desc c i f first ∙ ap (λ n. pos (8 * f + place_in narrow be n)) bit in
+                    let read : bit_place desc c i ≡ pos k -ℤ pos (8 * (x * c.step)) = omega (arith, ints, place, back) in
+                    let missed = list_any-below_false (λ n. int_eq (bit_place desc c n) (pos k -ℤ pos (8 * (x * c.step)))) c.depth i unread (omega arith) in
+                    absurd (both_ways (int_eq (bit_place desc c i) (pos k -ℤ pos (8 * (x * c.step)))) missed ((Decides-int_eq (bit_place desc c i) (pos k -ℤ pos (8 * (x * c.step)))).1 read))
+              ]
             ]
-          ]
       ]
     ]

@@ -1,6 +1,6 @@
 -- The bits of a number in which some are replaced.
-use Rattle.std.proofs.Common.{◌≡◌, ℕ, zero, suc, ◌+◌, ◌-◌, ◌*◌, ◌/◌, ◌%◌, ◌^◌, ◌<◌, ◌≤◌, ◌⊎◌, inl, inr, min, max, sym, ◌∙◌, ap, rules, arith, bit_and, bit_or}
-use Rattle.std.specs.Int.{bit_at, bit_not, w16}
+use Rattle.std.proofs.Common.{◌≡◌, ℕ, zero, suc, ◌+◌, ◌-◌, ◌*◌, ◌/◌, ◌%◌, ◌^◌, ◌<◌, ◌≤◌, inl, inr, min, max, sym, ◌∙◌, ap, arith, bit_and, bit_or}
+use Rattle.std.specs.Int.{bit_at, w16}
 use Rattle.std.proofs.Math.Nat.{mod-lt, pow-le-pow_right}
 use Rattle.std.proofs.lemmas.Bool.{cases_lt}
 use Rattle.std.proofs.lemmas.Nat.{pow_pos, pow-add, one_shl, shl_whole, shl_below, shr-shr, shr_split, and_le_l, or_lt}
@@ -66,18 +66,18 @@ replaced_below n s d v i fits below =
 pub replaced_above : (n s d v i : ℕ) → s + d ≤ 16 → n < 2 ^ 16 → v < 2 ^ d → s + d ≤ i → bit_at (replaced n s d v) i ≡ bit_at n i
 replaced_above n s d v i fits number value above =
     elim (cases_lt i 16) as (λ _. bit_at (replaced n s d v) i ≡ bit_at n i) [
-      inl below ↦
-        let none = bit_at_mask_above s (s + d) i above in
-        let clear = bit_at-shl v s i (omega arith) ∙ bit_at_above v d (i - s) value (omega arith) in
-        replaced_bit n s d v i fits below ∙ (let e : max (min (bit_at n i) (1 - bit_at (2 ^ (s + d) - 2 ^ s) i)) (bit_at (v * 2 ^ s) i) ≡ bit_at n i = omega (arith, none, clear, bit_at-lt n i) in e)
-    | inr past ↦ bit_at_above (replaced n s d v) 16 i (replaced_small n s d v 16 fits number value) past ∙ sym (bit_at_above n 16 i number past)
+      | inl below ↦
+          let none = bit_at_mask_above s (s + d) i above in
+          let clear = bit_at-shl v s i (omega arith) ∙ bit_at_above v d (i - s) value (omega arith) in
+          replaced_bit n s d v i fits below ∙ (let e : max (min (bit_at n i) (1 - bit_at (2 ^ (s + d) - 2 ^ s) i)) (bit_at (v * 2 ^ s) i) ≡ bit_at n i = omega (arith, none, clear, bit_at-lt n i) in e)
+      | inr past ↦ bit_at_above (replaced n s d v) 16 i (replaced_small n s d v 16 fits number value) past ∙ sym (bit_at_above n 16 i number past)
     ]
 
 -- and the d bits are v's
 pub replaced_value : (n s d v : ℕ) → s + d ≤ 16 → v < 2 ^ d → replaced n s d v / 2 ^ s % 2 ^ d ≡ v
 replaced_value n s d v fits value =
     same_from_bits_below d (replaced n s d v / 2 ^ s % 2 ^ d) v (mod-lt (replaced n s d v / 2 ^ s) (pow_pos d)) value (λ i below.
-      let all = bit_at_mask_inside s (s + d) (s + i) (omega arith) (omega arith) in
-      let put : bit_at (v * 2 ^ s) (s + i) ≡ bit_at v i = bit_at-shl v s (s + i) (omega arith) ∙ ap (bit_at v) (let e : (s + i) - s ≡ i = omega arith in e) in
-      bit_at_field (replaced n s d v) s d i below ∙ replaced_bit n s d v (s + i) fits (omega arith)
-      ∙ (let e : max (min (bit_at n (s + i)) (1 - bit_at (2 ^ (s + d) - 2 ^ s) (s + i))) (bit_at (v * 2 ^ s) (s + i)) ≡ bit_at v i = omega (arith, all, put, bit_at-lt n (s + i)) in e))
+    let all = bit_at_mask_inside s (s + d) (s + i) (omega arith) (omega arith) in
+    let put : bit_at (v * 2 ^ s) (s + i) ≡ bit_at v i = bit_at-shl v s (s + i) (omega arith) ∙ ap (bit_at v) (let e : (s + i) - s ≡ i = omega arith in e) in
+    bit_at_field (replaced n s d v) s d i below ∙ replaced_bit n s d v (s + i) fits (omega arith)
+    ∙ (let e : max (min (bit_at n (s + i)) (1 - bit_at (2 ^ (s + d) - 2 ^ s) (s + i))) (bit_at (v * 2 ^ s) (s + i)) ≡ bit_at v i = omega (arith, all, put, bit_at-lt n (s + i)) in e))

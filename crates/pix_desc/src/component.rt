@@ -4,10 +4,9 @@ ghost use Rattle.std.specs.Int.{bit_at};
 ghost use Rattle.pix_desc.specs.Component.{component_of, is_narrow, bytes_read, start_of, number_at, component, KeepsOtherBits};
 ghost use Rattle.pix_desc.specs.Layouts.{IsValid};
 
-use byteorder::{BigEndian, ByteOrder, LittleEndian};
-
 use crate::place::{first_place, is_narrow};
 use crate::{Comp, Desc};
+use byteorder::{BigEndian, ByteOrder, LittleEndian};
 
 /// Where in a row the first byte stands that the component of pixel `x` is read from.
 fn start_of(desc: &Desc, comp: &Comp, x: u32) -> usize
@@ -63,8 +62,8 @@ fn with_bits(number: u16, shift: u8, depth: u8, value: u16) -> u16
     requires small { value < 2 ^ depth }
     ensures value { result / 2 ^ shift % 2 ^ depth ≡ value }
     ensures below { (i : ℕ) → i < shift → bit_at result i ≡ bit_at number i }
-    ensures narrow { shift + depth ≤ 8 → number < 2 ^ 8 → result < 2 ^ 8 }
     ensures above { (i : ℕ) → shift + depth ≤ i → bit_at result i ≡ bit_at number i }
+    ensures narrow { shift + depth ≤ 8 → number < 2 ^ 8 → result < 2 ^ 8 }
 {
     let ones = ((1u32 << depth) - 1) as u16;
     (number & !(ones << shift)) | (value << shift)
@@ -95,5 +94,6 @@ pub fn write_comp(desc: &Desc, j: u8, row: &mut [u8], x: u32, v: u32)
     let comp = desc.comps[j as usize];
     let at = start_of(desc, &comp, x);
     let number = number_at(desc, &comp, row, at);
-    set_number_at(desc, &comp, row, at, with_bits(number, comp.shift, comp.depth, v as u16));
+    let changed = with_bits(number, comp.shift, comp.depth, v as u16);
+    set_number_at(desc, &comp, row, at, changed);
 }

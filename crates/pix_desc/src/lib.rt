@@ -10,8 +10,11 @@ mod layout;
 mod place;
 mod word;
 
-pub use desc::{Comp, Desc, DescFault, Layout};
-pub use frame::{agreeing_values_frame, has_one_frame, same_values_frame};
 pub use checks::check;
 pub use component::{read_comp, write_comp};
+pub use desc::{Comp, Desc, DescFault, Layout};
+pub use frame::{agreeing_values_frame, has_one_frame, same_values_frame};
 pub use laws::{component_has_its_bits, other_components_stay, passes_laid_out};
+
+#[cfg(test)]
+mod tests;

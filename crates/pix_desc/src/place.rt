@@ -40,7 +40,11 @@ pub fn first_byte(desc: &Desc, comp: &Comp) -> i16
     ensures { result ≡ first_byte desc.now comp.now }
 {
     let offset = i16::from(comp.offset);
-    if desc.be && is_narrow(comp) { offset + 1 } else { offset }
+    if desc.be && is_narrow(comp) {
+        offset + 1
+    } else {
+        offset
+    }
 }
 
 /// The first byte that the component is read from, and 0 where it lies before the pixel.
@@ -55,7 +59,11 @@ fn byte_with(desc: &Desc, comp: &Comp, bit: u16) -> u16
     ensures { result ≡ (if desc.now.be && not (is_narrow comp.now) then 1 - bit / 8 else bit / 8) }
 {
     let byte = bit / 8;
-    if desc.be && !is_narrow(comp) { 1u16.saturating_sub(byte) } else { byte }
+    if desc.be && !is_narrow(comp) {
+        1u16.saturating_sub(byte)
+    } else {
+        byte
+    }
 }
 
 /// The bit of the pixel that is bit `i` of the component's value, counted from the lowest bit of the pixel's first byte.
