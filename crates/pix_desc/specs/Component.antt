@@ -1,5 +1,5 @@
 -- Components of a pixel: where a descriptor says that they lie, and what is read there (FFmpeg, libavutil/pixdesc.h, AVComponentDescriptor and av_read_image_line2).
-use Rattle.std.specs.Prelude.{◌≡◌, ℕ, ◌+◌, ◌-◌, ◌*◌, ◌/◌, ◌%◌, ◌^◌, ℤ, pos, negsuc, ◌+ℤ◌, ◌*ℤ◌, ◌-ℤ◌, Bool, false, not, ◌&&◌, if◌then◌else◌, nat_le, List, take, length, slice_index, slice_index_or}
+use Rattle.std.specs.Prelude.{◌≡◌, ℕ, ◌+◌, ◌-◌, ◌*◌, ◌/◌, ◌%◌, ◌^◌, ℤ, pos, negsuc, ◌+ℤ◌, ◌*ℤ◌, ◌-ℤ◌, Bool, false, not, ◌&&◌, if◌then◌else◌, nat_le, List, map, length, slice_index, slice_index_or}
 use Rattle.std.specs.List.{range_with_len, list_any}
 use Rattle.std.specs.Int.{bit_at}
 use Rattle.std.specs.Ordering.{int_eq}
@@ -10,13 +10,13 @@ use Rattle.pix_desc.specs.declared.desc.Desc.{Desc}
 abbrev pub no_component : Comp
 no_component = record { plane = 0; step = 0; offset = pos 0; shift = 0; depth = 0 }
 
--- the components that a descriptor has, in their order
-abbrev pub components : Desc → List Comp
-components desc = take desc.count desc.comps
-
--- component j
+-- component j, and the component of no bits where the descriptor has no entry j
 abbrev pub component_of : Desc → ℕ → Comp
 component_of desc j = slice_index_or desc.comps j no_component
+
+-- the components that a descriptor has, in their order
+abbrev pub components : Desc → List Comp
+components desc = map (component_of desc) (range_with_len 0 desc.count)
 
 -- a component is read from one byte where shift and depth leave room for it, else from a number of two bytes
 abbrev pub is_narrow : Comp → Bool

@@ -2,5 +2,7 @@
 #![tactic(auto)]
 
 mod desc;
+mod laws;
 
 pub use desc::{Comp, Desc, DescFault, Layout};
+pub use laws::passes_laid_out;
