@@ -1,2 +1,12 @@
 pub mod Components
 pub mod Valid
+pub mod Bits
+pub mod BitsOfBytes
+pub mod FramePlaces
+pub mod FrameReads
+pub mod FramePixel
+pub mod FramePlanes
+pub mod FrameExists
+pub mod FrameOnly
+pub mod FrameLaws
+pub mod FrameValues

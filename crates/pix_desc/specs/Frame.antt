@@ -79,3 +79,16 @@ planes_of desc width height value (suc plane) =
 -- the raw frame of these values, for a format without a palette
 unfoldable pub frame_of : Desc → ℕ → ℕ → (ℕ → ℕ → ℕ → ℕ) → List ℕ
 frame_of desc width height value = planes_of desc width height value 4
+
+-- each value fits the depth of its component
+abbrev pub FitDepths : Desc → ℕ → ℕ → (ℕ → ℕ → ℕ → ℕ) → Type 0
+FitDepths desc width height value = (j x y : ℕ) → j < desc.count → x < width → y < height → value j x y < 2 ^ (component_of desc j).depth
+
+-- the two give the same values within the frame
+abbrev pub AgreeWithin : Desc → ℕ → ℕ → (ℕ → ℕ → ℕ → ℕ) → (ℕ → ℕ → ℕ → ℕ) → Type 0
+AgreeWithin desc width height value other = (j x y : ℕ) → j < desc.count → x < width → y < height → value j x y ≡ other j x y
+
+-- Values have exactly one raw frame: `frame_of` makes it where they fit the depths, and no other list of bytes says them.
+pub record HasOneFrame (desc : Desc) (width height : ℕ) (value : ℕ → ℕ → ℕ → ℕ) : Type 0 where
+  pub says : FitDepths desc width height value → IsFrameOf desc width height value (frame_of desc width height value)
+  pub only : (frame : List ℕ) → IsFrameOf desc width height value frame → frame ≡ frame_of desc width height value
