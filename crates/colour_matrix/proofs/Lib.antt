@@ -1,0 +1,8 @@
+pub mod RatioLaws
+pub mod Quotients
+pub mod Parts
+pub mod Rows
+pub mod ColourLaws
+pub mod ColourRows
+pub mod Coefficients
+pub mod LevelLaws

@@ -1,0 +1,4 @@
+pub mod Matrix
+pub mod Values
+pub mod Colour
+pub mod Levels

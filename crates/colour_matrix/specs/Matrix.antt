@@ -1,0 +1,24 @@
+-- The matrices (q, r, b): of q parts of luma r are red, b are blue, and the rest is green.
+-- In the words of ITU-T H.273 section 8.3 K_R = r/q and K_B = b/q.
+use Rattle.std.specs.Prelude.{ℕ, ◌+◌, ◌<◌, ◌≤◌, List, if◌then◌else◌, Option, Some, None, codes}
+use Rattle.std.specs.Str.{bytes_eq}
+use Rattle.colour_matrix.specs.declared.matrix.Matrix.{Matrix}
+
+-- red, blue and green have each a part in luma, and there are at most 2^24 parts
+pub record IsMatrix (m : Matrix) : Type 0 where
+  pub red : 1 ≤ m.r
+  pub blue : 1 ≤ m.b
+  pub green : m.r + m.b < m.q
+  pub parts : m.q ≤ 16777216
+
+abbrev pub of_parts : ℕ → ℕ → ℕ → Matrix
+of_parts q r b = record { q = q; r = r; b = b }
+
+-- the matrix of a name (K_R and K_B of table 4 of ITU-T H.273), and none for any other name
+abbrev pub matrix_named : List ℕ → Option Matrix
+matrix_named name =
+    if bytes_eq name (codes "bt601") then Some (of_parts 1000 299 114) else (
+    if bytes_eq name (codes "bt709") then Some (of_parts 10000 2126 722) else (
+    if bytes_eq name (codes "bt2020") then Some (of_parts 10000 2627 593) else (
+    if bytes_eq name (codes "smpte240m") then Some (of_parts 1000 212 87) else (
+    if bytes_eq name (codes "fcc") then Some (of_parts 100 30 11) else None))))
