@@ -5,7 +5,7 @@ use Rattle.std.specs.List.{range_with_len}
 use Rattle.std.proofs.lemmas.Bool.{cases_lt, cases_eq}
 use Rattle.std.proofs.lemmas.List.Sums.{sum_by-cons}
 use Rattle.std.proofs.lemmas.Nat.{shr-shr, shr_split, or_disjoint, or_lt, pow_pos}
-use Rattle.std.proofs.lemmas.Nat.Bits.{bit_at-lt, bit_at-zero, bit_at_cat_low, bit_at_cat_high, bit_at_above, bit_at_and, bit_at_or, same_from_bits}
+use Rattle.std.proofs.lemmas.Nat.Bits.{bit_at-zero, bit_at_cat_low, bit_at_cat_high, bit_at_above, bit_at_and, bit_at_or, same_from_bits}
 
 -- bit i of the field of `depth` bits above the lowest `shift`
 pub bit_at_field : (n shift depth i : ℕ) → i < depth → bit_at (n / 2 ^ shift % 2 ^ depth) i ≡ bit_at n (shift + i)

@@ -1,5 +1,5 @@
 -- The laws of raw frames over descriptors that pass the check.
-use Rattle.std.proofs.Common.{◌≡◌, ℕ, false, List, sym, ◌∙◌}
+use Rattle.std.proofs.Common.{◌≡◌, ℕ, false, List}
 use Rattle.pix_desc.specs.declared.desc.Desc.{Desc}
 use Rattle.pix_desc.specs.Frame.{frame_of, IsFrameOf, FitDepths, HasOneFrame}
 use Rattle.pix_desc.specs.Layouts.{IsValid}

@@ -1,11 +1,11 @@
 -- No two raw frames say the same values.
-use Rattle.std.proofs.Common.{◌≡◌, ℕ, ◌+◌, ◌*◌, ◌^◌, ◌<◌, ⊎_elim, Bool, true, false, if◌then◌else◌, nat_eq, List, All, length, get_or, ext_get_or, sym, refl, ap, subst, ◌∙◌, arith}
+use Rattle.std.proofs.Common.{◌≡◌, ℕ, ◌+◌, ◌*◌, ◌^◌, ◌<◌, ⊎_elim, false, if◌then◌else◌, nat_eq, List, get_or, ext_get_or, sym, ap, subst, ◌∙◌, arith}
 use Rattle.std.specs.Int.{bit_at}
 use Rattle.std.proofs.lemmas.Bool.{cases_Bool}
 use Rattle.std.proofs.lemmas.Nat.Bits.{same_from_bits_below}
 use Rattle.pix_desc.specs.declared.desc.Desc.{Desc}
 use Rattle.pix_desc.specs.Component.{component_of, bit_of}
-use Rattle.pix_desc.specs.Frame.{plane_step, plane_start, row_start, frame_component, frame_of, reads_pixel_bit, part, pixel_byte, IsFrameOf, FitDepths, AgreeWithin}
+use Rattle.pix_desc.specs.Frame.{plane_step, row_start, frame_of, reads_pixel_bit, part, pixel_byte, IsFrameOf, FitDepths, AgreeWithin}
 use Rattle.pix_desc.specs.Layouts.{IsLaidOut}
 use Rattle.pix_desc.proofs.Bits.{sum_from_same}
 use Rattle.pix_desc.proofs.FramePlaces.{byte_below, frame_component_below}
@@ -15,28 +15,33 @@ use Rattle.pix_desc.proofs.FramePlanes.{IsByteOf, find_byte}
 use Rattle.pix_desc.proofs.FrameExists.{bit_of_byte, frame_length_is, length-frame_of, byte_of_frame, frame_says}
 
 module _ (desc : Desc) (width height : ℕ) (value : ℕ → ℕ → ℕ → ℕ) (laid : IsLaidOut desc) where
-  -- a bit of a pixel is the same in both
-  same_bit : (a b : List ℕ) → IsFrameOf desc width height value a → IsFrameOf desc width height value b → (p x y o t : ℕ) → x < width → y < height → o < plane_step desc p → t < 8
-      → let at = row_start desc width height p y + x * plane_step desc p + o in bit_at (get_or a at 0) t ≡ bit_at (get_or b at 0) t
-  same_bit a b first second p x y o t column row byte bit =
-      let start = row_start desc width height p y + x * plane_step desc p in
-      let k = 8 * o + t in
-      let same : bit_of a (8 * start + k) ≡ bit_of b (8 * start + k) =
+  -- a bit that is read is the same in both, since the component that reads it is
+  same_read : (a b : List ℕ) → IsFrameOf desc width height value a → IsFrameOf desc width height value b → (p x y k j i : ℕ) → x < width → y < height → IsReadBy desc p k j i
+      → let at = 8 * (row_start desc width height p y + x * plane_step desc p) + k in bit_of a at ≡ bit_of b at
+  same_read a b first second p x y k j i column row by =
+      sym (frame_bit_by desc width height a p x y k j i laid first.bytes by)
+      ∙ ap (λ n. bit_at n i) (first.reads j x y by.listed column row ∙ sym (second.reads j x y by.listed column row))
+      ∙ frame_bit_by desc width height b p x y k j i laid second.bytes by
+
+  -- so is one that is spare, and each bit of a pixel is one or the other
+  same_bit : (a b : List ℕ) → IsFrameOf desc width height value a → IsFrameOf desc width height value b → (p x y k : ℕ) → x < width → y < height → k < 8 * plane_step desc p
+      → let at = 8 * (row_start desc width height p y + x * plane_step desc p) + k in bit_of a at ≡ bit_of b at
+  same_bit a b first second p x y k column row inside =
       ⊎_elim
-      (λ (read : reads_pixel_bit desc p k ≡ true).
-      let by = read_by desc p k read in
-      let is : IsReadBy desc p k by.0 by.1 = by.2 in
-      sym (frame_bit_by desc width height a p x y k by.0 by.1 laid first.bytes is)
-      ∙ ap (λ n. bit_at n by.1) (first.reads by.0 x y is.listed column row ∙ sym (second.reads by.0 x y is.listed column row))
-      ∙ frame_bit_by desc width height b p x y k by.0 by.1 laid second.bytes is)
-      (λ (unread : reads_pixel_bit desc p k ≡ false). first.spare p x y k column row (omega arith) unread ∙ sym (second.spare p x y k column row (omega arith) unread))
-      (cases_Bool (reads_pixel_bit desc p k)) in
-      sym (bit_of_byte a start o t bit) ∙ same ∙ bit_of_byte b start o t bit
+      (λ read. let by = read_by desc p k read in same_read a b first second p x y k by.0 by.1 column row by.2)
+      (λ unread. first.spare p x y k column row inside unread ∙ sym (second.spare p x y k column row inside unread))
+      (cases_Bool (reads_pixel_bit desc p k))
+
+  same_bit_of_byte : (a b : List ℕ) → IsFrameOf desc width height value a → IsFrameOf desc width height value b → (p x y o t : ℕ) → x < width → y < height → o < plane_step desc p → t < 8
+      → let at = row_start desc width height p y + x * plane_step desc p + o in bit_at (get_or a at 0) t ≡ bit_at (get_or b at 0) t
+  same_bit_of_byte a b first second p x y o t column row byte bit =
+      let start = row_start desc width height p y + x * plane_step desc p in
+      sym (bit_of_byte a start o t bit) ∙ same_bit a b first second p x y (8 * o + t) column row (omega arith) ∙ bit_of_byte b start o t bit
 
   same_byte : (a b : List ℕ) → IsFrameOf desc width height value a → IsFrameOf desc width height value b → (at p x y o : ℕ) → IsByteOf desc width height at p x y o → get_or a at 0 ≡ get_or b at 0
   same_byte a b first second at p x y o is =
       same_from_bits_below 8 (get_or a at 0) (get_or b at 0) (byte_below a at first.bytes) (byte_below b at second.bytes) (λ t bit.
-      ap (λ k. bit_at (get_or a k 0) t) is.place ∙ same_bit a b first second p x y o t is.column is.row is.byte bit ∙ ap (λ k. bit_at (get_or b k 0) t) (sym is.place))
+      ap (λ k. bit_at (get_or a k 0) t) is.place ∙ same_bit_of_byte a b first second p x y o t is.column is.row is.byte bit ∙ ap (λ k. bit_at (get_or b k 0) t) (sym is.place))
 
   -- two raw frames of the same values are one
   pub same_frames : (a b : List ℕ) → desc.palette ≡ false → IsFrameOf desc width height value a → IsFrameOf desc width height value b → a ≡ b

@@ -1,12 +1,11 @@
 -- The bits of a byte of a pixel that is made of its components' values.
-use Rattle.std.proofs.Common.{◌≡◌, ℕ, ◌+◌, ◌-◌, ◌*◌, ◌/◌, ◌%◌, ◌^◌, ◌<◌, ◌≤◌, ◌≢◌, ◌⊎◌, inl, inr, ⊎_elim, min, Bool, true, false, pos, if◌then◌else◌, nat_eq, eq-eqb, true≢false, pow_mono, sym, refl, ap, subst, ◌∙◌, arith}
+use Rattle.std.proofs.Common.{◌≡◌, ℕ, ◌+◌, ◌*◌, ◌/◌, ◌%◌, ◌^◌, ◌<◌, ◌≤◌, ◌≢◌, ◌⊎◌, inl, inr, ⊎_elim, false, pos, if◌then◌else◌, nat_eq, eq-eqb, true≢false, pow_mono, sym, ap, subst, ◌∙◌, arith}
 use Rattle.std.specs.Int.{bit_at}
-use Rattle.std.proofs.lemmas.Bool.{cases_lt, cases_eq, cases_Bool, cond-true, cond-false, ne_eqb}
+use Rattle.std.proofs.lemmas.Bool.{cases_lt, cases_eq, cond-true, cond-false, ne_eqb}
 use Rattle.std.proofs.lemmas.Nat.{shl_below}
 use Rattle.std.proofs.lemmas.Nat.Bits.{bit_at-zero, bit_at_above}
-use Rattle.pix_desc.specs.declared.desc.Comp.{Comp}
 use Rattle.pix_desc.specs.declared.desc.Desc.{Desc}
-use Rattle.pix_desc.specs.Component.{component_of, is_narrow, first_byte, count_of, bit_place}
+use Rattle.pix_desc.specs.Component.{component_of, is_narrow, first_byte, count_of}
 use Rattle.pix_desc.specs.Frame.{part, pixel_byte, reads_pixel_bit}
 use Rattle.pix_desc.specs.Layouts.{IsLaidOut}
 use Rattle.pix_desc.proofs.Bits.{SharesNoBit, bit_at_shifted, bit_at_shifted_cases, bit_at_sum_only, bit_at_sum_none, sum_from_below}
@@ -52,25 +51,41 @@ module _ (desc : Desc) (laid : IsLaidOut desc) (plane : ℕ) (values : ℕ → �
       let at : IsBitAt (is_narrow c) desc.be (count_of (first_byte desc c)) (c.shift + i) k b = record { inside = within; byte = omega arith; bit = omega arith } in
       ap (λ n. bit_at n b) (part_here k j by.there) ∙ bit_at_part (is_narrow c) desc.be (count_of (first_byte desc c)) (values j * 2 ^ c.shift) (c.shift + i) k b at ∙ bit_at_shifted (values j) c.shift i
 
+  -- a bit of a component's number that is no bit of its value is 0
+  number_cases : (k b j m : ℕ) → j < desc.count → (component_of desc j).plane ≡ plane → IsBitAt (is_narrow (component_of desc j)) desc.be (count_of (first_byte desc (component_of desc j))) m k b
+      → (bit_at (values j * 2 ^ (component_of desc j).shift) m ≡ 0) ⊎ ((i : ℕ) × IsReadBy desc plane (8 * k + b) j i)
+  number_cases k b j m listed here at =
+      let c = component_of desc j in
+      let first = count_of (first_byte desc c) in
+      elim (bit_at_shifted_cases (values j) c.shift c.depth m (fit j listed)) as (λ _. (bit_at (values j * 2 ^ c.shift) m ≡ 0) ⊎ ((i : ℕ) × IsReadBy desc plane (8 * k + b) j i)) [
+        | inl none ↦ inl none
+        | inr bit ↦
+            let byte : k ≡ first + byte_of (is_narrow c) desc.be (c.shift + bit.0) = at.byte ∙ ap (λ t. first + byte_of (is_narrow c) desc.be t) (sym bit.2) in
+            let place : place_of desc c (c.shift + bit.0) ≡ 8 * k + b = omega (arith, byte, at.bit, bit.2) in
+            inr (bit.0, record { listed = listed; there = here; inside = bit.1; at = bit_place_is desc c bit.0 (laid.first j listed) ∙ ap pos place })
+      ]
+
   -- a bit of a component's part is 0 where the component reads none
-  part_in_cases : (k b j : ℕ) → b < 8 → j < desc.count → (bit_at (part_in desc plane values k j) b ≡ 0) ⊎ ((i : ℕ) × IsReadBy desc plane (8 * k + b) j i)
-  part_in_cases k b j below listed =
+  part_here_cases : (k b j : ℕ) → b < 8 → j < desc.count → (component_of desc j).plane ≡ plane
+      → (bit_at (part_in desc plane values k j) b ≡ 0) ⊎ ((i : ℕ) × IsReadBy desc plane (8 * k + b) j i)
+  part_here_cases k b j below listed here =
       let c = component_of desc j in
       let first = count_of (first_byte desc c) in
       let number = values j * 2 ^ c.shift in
+      let is = ap (λ n. bit_at n b) (part_here k j here) in
+      elim (bit_at_part_cases (is_narrow c) desc.be first number k b below) as (λ _. (bit_at (part_in desc plane values k j) b ≡ 0) ⊎ ((i : ℕ) × IsReadBy desc plane (8 * k + b) j i)) [
+        | inl none ↦ inl (is ∙ none)
+        | inr one ↦
+            let unset = λ (none : bit_at number one.0 ≡ 0). is ∙ bit_at_part (is_narrow c) desc.be first number one.0 k b one.1 ∙ none in
+            ⊎_elim (λ none. inl (unset none)) (λ read. inr read) (number_cases k b j one.0 listed here one.1)
+      ]
+
+  part_in_cases : (k b j : ℕ) → b < 8 → j < desc.count → (bit_at (part_in desc plane values k j) b ≡ 0) ⊎ ((i : ℕ) × IsReadBy desc plane (8 * k + b) j i)
+  part_in_cases k b j below listed =
       ⊎_elim
-      (λ (here : c.plane ≡ plane). ⊎_elim
-      (λ none. inl (ap (λ n. bit_at n b) (part_here k j here) ∙ none))
-      (λ (one : (m : ℕ) × IsBitAt (is_narrow c) desc.be first m k b). ⊎_elim
-      (λ none. inl (ap (λ n. bit_at n b) (part_here k j here) ∙ bit_at_part (is_narrow c) desc.be first number one.0 k b one.1 ∙ none))
-      (λ (bit : (i : ℕ) × (i < c.depth) × (c.shift + i ≡ one.0)).
-      let byte : k ≡ first + byte_of (is_narrow c) desc.be (c.shift + bit.0) = one.1.byte ∙ ap (λ m. first + byte_of (is_narrow c) desc.be m) (sym bit.2) in
-      let place : place_of desc c (c.shift + bit.0) ≡ 8 * k + b = omega (arith, byte, one.1.bit, bit.2) in
-      inr (bit.0, record { listed = listed; there = here; inside = bit.1; at = bit_place_is desc c bit.0 (laid.first j listed) ∙ ap pos place }))
-      (bit_at_shifted_cases (values j) c.shift c.depth one.0 (fit j listed)))
-      (bit_at_part_cases (is_narrow c) desc.be first number k b below))
-      (λ (there : c.plane ≢ plane). inl (ap (λ n. bit_at n b) (part_elsewhere k j there) ∙ bit_at-zero b))
-      (cases_eq c.plane plane)
+      (λ here. part_here_cases k b j below listed here)
+      (λ there. inl (ap (λ n. bit_at n b) (part_elsewhere k j there) ∙ bit_at-zero b))
+      (cases_eq (component_of desc j).plane plane)
 
   -- a bit that component j reads is in no other component's part
   part_in_apart : (k b j i other : ℕ) → b < 8 → IsReadBy desc plane (8 * k + b) j i → other < desc.count → other ≢ j → bit_at (part_in desc plane values k other) b ≡ 0

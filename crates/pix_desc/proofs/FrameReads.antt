@@ -1,16 +1,15 @@
 -- Which bits of a pixel a descriptor's components read.
-use Rattle.std.proofs.Common.{◌≡◌, ℕ, ◌+◌, ◌*◌, ◌<◌, ◌≤◌, ◌-◌, ◌≢◌, ⊎_elim, Bool, true, false, ◌&&◌, pos, List, [], ◌∷◌, suc, All, length, get_or, take, nat_eq, eqb-true, eq-eqb, length-take-le, get_or-take, sym, refl, ap, subst, ◌∙◌, arith}
-use Rattle.std.specs.List.{range_with_len, list_any}
+use Rattle.std.proofs.Common.{◌≡◌, ℕ, ◌+◌, ◌*◌, ◌<◌, ◌≤◌, ◌≢◌, ⊎_elim, true, ◌&&◌, pos, List, [], ◌∷◌, suc, All, length, get_or, nat_eq, eqb-true, eq-eqb, sym, refl, ap, subst, ◌∙◌, arith}
+use Rattle.std.specs.List.{range_with_len}
 use Rattle.std.specs.Int.{bit_at}
 use Rattle.std.specs.Ordering.{int_eq}
 use Rattle.std.proofs.lemmas.Bool.{cases_lt, cond-false, ne_eqb, and_parts, and_from}
 use Rattle.std.proofs.lemmas.Bool.Decides.{Decides-int_eq}
-use Rattle.std.proofs.lemmas.List.{get_or_past, get_or_default}
 use Rattle.std.proofs.lemmas.List.FromFn.{length-range_with_len, get_or-range_with_len}
 use Rattle.std.proofs.lemmas.List.Folds.{Any-from_list_any, list_any_at}
 use Rattle.pix_desc.specs.declared.desc.Comp.{Comp}
 use Rattle.pix_desc.specs.declared.desc.Desc.{Desc}
-use Rattle.pix_desc.specs.Component.{no_component, components, component_of, is_narrow, bytes_read, first_byte, count_of, bit_place, reads_bit, bit_of}
+use Rattle.pix_desc.specs.Component.{components, component_of, is_narrow, bytes_read, first_byte, count_of, bit_place, reads_bit, bit_of}
 use Rattle.pix_desc.specs.Frame.{plane_step, step_in, row_start, frame_component, reads_pixel_bit}
 use Rattle.pix_desc.specs.Layouts.{IsLaidOut}
 use Rattle.pix_desc.proofs.Components.{get_or-components, length-components}
