@@ -1,3 +1,4 @@
 pub mod Pairs
 pub mod Values
 pub mod Target
+pub mod Laws

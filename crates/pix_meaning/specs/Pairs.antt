@@ -11,7 +11,8 @@ use Rattle.colour_matrix.specs.declared.class.Levels.{Levels}
 use Rattle.pix_meaning.specs.declared.pair.Side.{Side}
 use Rattle.pix_meaning.specs.declared.pair.Pair.{Pair}
 
--- A pair is valid where both descriptors pass the check, both matrices are matrices, and the dither is 0 to 4.
+-- A pair is valid where both descriptors pass the check, both matrices are within their bounds, and the dither is 0 to 4. A matrix is three plain
+-- numbers in the code, so its bounds are a part of this.
 pub record IsValidPair (pair : Pair) : Type 0 where
   pub from : IsValid pair.from.desc
   pub to : IsValid pair.to.desc
@@ -19,7 +20,7 @@ pub record IsValidPair (pair : Pair) : Type 0 where
   pub to_matrix : IsMatrix pair.to.matrix
   pub dither : pair.dither ≤ 4
 
--- a format of red, green and blue, as the entries of a palette are
+-- A format of red, green and blue. A palette format is one too, by its entries: its own component is an index, and its flag for RGB is not set.
 abbrev pub is_rgb : Desc → Bool
 is_rgb desc = desc.rgb || desc.palette
 
@@ -27,6 +28,7 @@ is_rgb desc = desc.rgb || desc.palette
 abbrev pub component_count : Desc → ℕ
 component_count desc = if desc.palette then 4 else desc.count
 
+-- the bits of component j; each of an entry has 8
 abbrev pub depth_of : Desc → ℕ → ℕ
 depth_of desc j = if desc.palette then 8 else (component_of desc j).depth
 
@@ -52,6 +54,6 @@ class_of desc (suc zero) = if is_rgb desc then Direct else Chroma
 class_of desc (suc (suc zero)) = if is_rgb desc then Direct else Chroma
 class_of desc (suc (suc (suc c))) = Direct
 
--- scale and base of a channel (ITU-T H.273 section 8.3)
+-- the scale and base of a channel (ITU-T H.273 section 8.3)
 abbrev pub levels_of : Side → ℕ → Levels
 levels_of side c = levels (class_of side.desc c) (depth_of side.desc (component_at side.desc c)) side.range

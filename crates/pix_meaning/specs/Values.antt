@@ -1,5 +1,5 @@
--- From the codes of a source pixel to the value that is wanted of each component of the target. Nothing is rounded on the way.
-use Rattle.std.specs.Prelude.{ℕ, ◌+◌, ◌-◌, ◌*◌, List, slice_index, nat_eq, if◌then◌else◌}
+-- From the codes of a source pixel to the value that is wanted of each component of the target. Nothing is rounded or clamped on the way.
+use Rattle.std.specs.Prelude.{ℕ, zero, suc, ◌+◌, ◌*◌, List, slice_index, nat_eq, if◌then◌else◌}
 use Rattle.frac_math.specs.Fraction.{ℚ, nat}
 use Rattle.pix_desc.specs.Frame.{frame_component}
 use Rattle.pix_desc.specs.declared.desc.Desc.{Desc}
@@ -10,9 +10,16 @@ use Rattle.pix_meaning.specs.declared.pair.Side.{Side}
 use Rattle.pix_meaning.specs.declared.pair.Pair.{Pair}
 use Rattle.pix_meaning.specs.Pairs.{is_rgb, has_channel, component_at, channel_of, levels_of}
 
--- Behind the indices of a palette format stand 256 entries of four bytes: a little-endian number with alpha highest, then red, green and blue.
+-- An entry of a palette is a little-endian number of four bytes with alpha highest, then red, green and blue: the byte of red, green, blue and alpha.
+abbrev pub entry_byte : ℕ → ℕ
+entry_byte zero = 2
+entry_byte (suc zero) = 1
+entry_byte (suc (suc zero)) = 0
+entry_byte (suc (suc (suc j))) = 3
+
+-- component j of an entry; the 256 entries stand behind the indices of all pixels (FFmpeg's libavutil/pixdesc.h, AV_PIX_FMT_FLAG_PAL)
 abbrev pub entry_component : ℕ → ℕ → List ℕ → ℕ → ℕ → ℕ
-entry_component width height frame index j = slice_index frame (width * height + 4 * index + (if nat_eq j 3 then 3 else 2 - j))
+entry_component width height frame index j = slice_index frame (width * height + 4 * index + entry_byte j)
 
 -- the code of component j of the pixel at x and y
 unfoldable pub source_component : Desc → ℕ → ℕ → List ℕ → ℕ → ℕ → ℕ → ℕ
@@ -20,7 +27,7 @@ source_component desc width height frame j x y =
     if desc.palette then entry_component width height frame (frame_component desc width height frame 0 x y) j
     else frame_component desc width height frame j x y
 
--- the value of a channel; gray has the chroma 0, and a missing alpha is 1
+-- the value of channel c of the pixel at x and y; gray has the chroma 0, and a missing alpha is 1
 unfoldable pub source_value : Side → ℕ → ℕ → List ℕ → ℕ → ℕ → ℕ → ℚ
 source_value side width height frame x y c =
     if has_channel side.desc c then from_code (levels_of side c) (nat (source_component side.desc width height frame (component_at side.desc c) x y))
