@@ -1,2 +1,4 @@
 pub mod Channels
 pub mod Passing
+pub mod TargetLaws
+pub mod Examples

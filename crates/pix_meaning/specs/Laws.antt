@@ -1,5 +1,5 @@
 -- What the definitions keep: the laws that the functions of src/laws.rt prove.
-use Rattle.std.specs.Prelude.{◌≡◌, ℕ, ◌<◌, List, true, false}
+use Rattle.std.specs.Prelude.{◌≡◌, ℕ, ◌<◌, ◌^◌, List, true, false}
 use Rattle.frac_math.specs.Fraction.{nat}
 use Rattle.pix_desc.specs.declared.desc.Desc.{Desc}
 use Rattle.colour_matrix.specs.Matrix.{IsMatrix}
@@ -8,6 +8,7 @@ use Rattle.pix_meaning.specs.declared.pair.Side.{Side}
 use Rattle.pix_meaning.specs.declared.pair.Pair.{Pair}
 use Rattle.pix_meaning.specs.Pairs.{IsValidPair, is_rgb, component_count, depth_of, has_channel, component_at, channel_of}
 use Rattle.pix_meaning.specs.Values.{source_component, rgb_values, target_values, wanted}
+use Rattle.pix_meaning.specs.Target.{result_of, IsTargetRows, target_rows}
 
 -- Each component gives one channel, which is there, and each channel that is there comes from one component.
 pub record HasChannels (desc : Desc) : Type 0 where
@@ -27,3 +28,13 @@ PassesCodes = (pair : Pair) (width height : ℕ) (frame : List ℕ) (i j x y : �
     → is_rgb pair.from.desc ≡ true → is_rgb pair.to.desc ≡ true → i < component_count pair.from.desc → j < component_count pair.to.desc
     → channel_of pair.from.desc i ≡ channel_of pair.to.desc j → depth_of pair.from.desc i ≡ depth_of pair.to.desc j
     → wanted pair width height frame j x y ≡ nat (source_component pair.from.desc width height frame i x y)
+
+-- a wanted value that is a code of its component is the result, whatever the dither
+abbrev pub KeepsCodes : Type 0
+KeepsCodes = (pair : Pair) (width height first : ℕ) (frame : List ℕ) (j x y code : ℕ) → wanted pair width height frame j x y ≡ nat code → code < 2 ^ depth_of pair.to.desc j
+    → result_of pair width height first frame j x y ≡ code
+
+-- A source frame has exactly one target frame: the rows that are made of the results, and no other bytes.
+pub record HasOneTargetFrame (pair : Pair) (width height first : ℕ) (frame : List ℕ) : Type 0 where
+  pub made : IsTargetRows pair width height first frame (target_rows pair width height first frame)
+  pub only : (target : List ℕ) → IsTargetRows pair width height first frame target → target ≡ target_rows pair width height first frame

@@ -2,3 +2,4 @@ pub mod Pairs
 pub mod Values
 pub mod Target
 pub mod Laws
+pub mod Examples

@@ -1,7 +1,11 @@
 // The laws of the definitions, each the contract of a function.
+ghost use Rattle.std.specs.Prelude.{◌≡◌, ℕ, false, List};
 ghost use Rattle.pix_desc.specs.declared.desc.Desc.{Desc};
 ghost use Rattle.pix_desc.specs.Layouts.{IsValid};
-ghost use Rattle.pix_meaning.specs.Laws.{HasChannels, PassesLumaAndChroma, PassesCodes};
+ghost use Rattle.pix_meaning.specs.declared.pair.Pair.{Pair};
+ghost use Rattle.pix_meaning.specs.Pairs.{IsValidPair};
+ghost use Rattle.pix_meaning.specs.Laws.{HasChannels, PassesLumaAndChroma, PassesCodes, KeepsCodes, HasOneTargetFrame};
+ghost use Rattle.pix_meaning.specs.Examples.{GrayOfSixteenBits};
 
 /// The components of a format are its channels in another numbering.
 pub fn has_channels()
@@ -16,4 +20,21 @@ pub fn passes_luma_and_chroma()
 /// Between two RGB sides a component of the same channel and the same depth passes as it is.
 pub fn passes_codes()
     ensures { PassesCodes }
+{}
+
+/// A wanted value that is a code is the result, whatever the dither.
+pub fn keeps_codes()
+    ensures { KeepsCodes }
+{}
+
+/// A source frame has exactly one target frame in a format without a palette, and so has each slice of its rows. The
+/// bytes that a frame of another length lacks count as 0.
+pub fn has_one_target_frame()
+    ensures { (pair : Pair) (width height first : ℕ) (frame : List ℕ) → IsValidPair pair → pair.to.desc.palette ≡ false
+        → HasOneTargetFrame pair width height first frame }
+{}
+
+/// Gray of 16 bits to gray of 8.
+pub fn converts_gray()
+    ensures { GrayOfSixteenBits }
 {}
