@@ -18,7 +18,7 @@ pub enum Class {
 }
 
 /// A code C stands for the value E with `C = scale * E + base`.
-#[derive(Clone, Copy)]
+#[derive(Clone, Copy, Debug, PartialEq, Eq)]
 pub struct Levels {
     pub scale: Frac,
     pub base: Frac,
