@@ -5,7 +5,7 @@ ghost use Rattle.pix_desc.specs.Layouts.{IsValid};
 ghost use Rattle.pix_meaning.specs.declared.pair.Pair.{Pair};
 ghost use Rattle.pix_meaning.specs.Pairs.{IsValidPair};
 ghost use Rattle.pix_meaning.specs.Laws.{HasChannels, PassesLumaAndChroma, PassesCodes, KeepsCodes, HasOneTargetFrame};
-ghost use Rattle.pix_meaning.specs.Examples.{GrayOfSixteenBits};
+ghost use Rattle.pix_meaning.specs.Examples.{WorkedConversions};
 
 /// The components of a format are its channels in another numbering.
 pub fn has_channels()
@@ -34,7 +34,7 @@ pub fn has_one_target_frame()
         → HasOneTargetFrame pair width height first frame }
 {}
 
-/// Gray of 16 bits to gray of 8.
-pub fn converts_gray()
-    ensures { GrayOfSixteenBits }
+/// Some conversions, byte by byte.
+pub fn worked_conversions()
+    ensures { WorkedConversions }
 {}

@@ -4,5 +4,5 @@
 mod laws;
 mod pair;
 
-pub use laws::{converts_gray, has_channels, has_one_target_frame, keeps_codes, passes_codes, passes_luma_and_chroma};
+pub use laws::{has_channels, has_one_target_frame, keeps_codes, passes_codes, passes_luma_and_chroma, worked_conversions};
 pub use pair::{Pair, Side};
