@@ -1,9 +1,9 @@
 -- What tests over a descriptor's components say of each of them.
-use Rattle.std.proofs.Common.{◌≡◌, ℕ, zero, suc, ◌<◌, Bool, true, false, nat_eq, List, [], ◌∷◌, length, get_or, map, inl, inr, refl, sym, ◌∙◌, ap, arith}
+use Rattle.std.proofs.Common.{◌≡◌, ℕ, zero, suc, ◌<◌, ◌≤◌, Bool, true, false, nat_eq, List, [], ◌∷◌, length, get_or, take, length-take, get_or-take, map, inl, inr, refl, sym, ◌∙◌, ap, arith}
 use Rattle.std.specs.List.{range_with_len, list_any, list_all}
 use Rattle.std.proofs.lemmas.Bool.{both_ways, false_from_ne_true, true_from_ne_false, or_parts, or_cases, cond-true, cond_both, eq-eqb}
 use Rattle.std.proofs.lemmas.Bool.Decides.{nat_tests}
-use Rattle.std.proofs.lemmas.List.FromFn.{length-map-range_with_len, get_or-map-range_with_len, length-range_with_len, get_or-range_with_len}
+use Rattle.std.proofs.lemmas.List.FromFn.{length-map-range_with_len, get_or-map-range_with_len, length-range_with_len, get_or-range_with_len, fill_by_all}
 use Rattle.std.proofs.lemmas.List.Folds.{list_any_at, list_all_at}
 use Rattle.pix_desc.specs.declared.desc.Comp.{Comp}
 use Rattle.pix_desc.specs.declared.desc.Desc.{Desc}
@@ -103,3 +103,9 @@ step_in-plane (c ∷ cs) (suc j) d none within =
     cond_both (nat_eq c.plane other.plane) c.step (step_in other.plane cs) (λ s. s ≡ other.step)
     (λ same. grind (arith, nat_tests))
     (λ _. step_in-plane cs j d apart.1 (omega arith))
+
+-- the components are the first entries of comps, where it has four
+pub take-comps : (desc : Desc) → length desc.comps ≡ 4 → desc.count ≤ 4 → take desc.count desc.comps ≡ components desc
+take-comps desc four most =
+    let long : length (take desc.count desc.comps) ≡ desc.count = omega (arith, length-take desc.count desc.comps) in
+    fill_by_all (component_of desc) (take desc.count desc.comps) desc.count no_component long (λ k below. get_or-take desc.count desc.comps k no_component below)

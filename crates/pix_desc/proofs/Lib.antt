@@ -1,4 +1,6 @@
 pub mod Components
+pub mod Pairs
+pub mod Planes
 pub mod Valid
 pub mod Bits
 pub mod BitsOfBytes

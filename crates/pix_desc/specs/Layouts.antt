@@ -36,9 +36,12 @@ some_pair desc have = some_two have (components desc)
 abbrev pub is_depth : Comp → Bool
 is_depth c = nat_le 1 c.depth && nat_le c.depth 16 && nat_le (c.shift + c.depth) 16
 
--- two components of one plane read a common bit of the pixel
+-- two components read a bit at one place, and they lie in one plane, so that it is a common bit of the pixel
+abbrev pub share_bit : Desc → Comp → Comp → Bool
+share_bit desc a b = list_any (λ i. reads_bit desc b (bit_place desc a i)) (range_with_len 0 a.depth)
+
 abbrev pub overlap : Desc → Comp → Comp → Bool
-overlap desc a b = nat_eq a.plane b.plane && list_any (λ i. reads_bit desc b (bit_place desc a i)) (range_with_len 0 a.depth)
+overlap desc a b = nat_eq a.plane b.plane && share_bit desc a b
 
 -- what is read lies in the pixel, which has 1 to 8 bytes
 abbrev pub is_inside : Desc → Comp → Bool
@@ -52,12 +55,21 @@ abbrev pub one_a_plane : List Comp → List Comp
 one_a_plane [] = []
 one_a_plane (c ∷ cs) = c ∷ filter (λ d. not (nat_eq d.plane c.plane)) (one_a_plane cs)
 
+-- two components have other bits of their numbers
+abbrev pub differ_in_shape : Comp → Comp → Bool
+differ_in_shape a b = not (nat_eq a.shift b.shift && nat_eq a.depth b.depth)
+
+-- the numbers that components are read from stand one after the other
+abbrev pub is_aligned : Desc → Comp → Bool
+is_aligned desc c = nat_eq (count_of (first_byte desc c) % bytes_read c) 0 && nat_eq (c.step % bytes_read c) 0
+
+-- how many numbers a pixel has in all its planes
+abbrev pub element_count : List Comp → ℕ
+element_count cs = sum_by (λ c. c.step / bytes_read c) (one_a_plane cs)
+
 -- Elements: a pixel is up to four numbers of equal size, and each holds one component, all at the same bits
 abbrev pub is_elements : Desc → Bool
-is_elements desc =
-    not (some_pair desc (λ a b. not (nat_eq a.shift b.shift && nat_eq a.depth b.depth)))
-    && list_all (λ c. nat_eq (count_of (first_byte desc c) % bytes_read c) 0 && nat_eq (c.step % bytes_read c) 0) (components desc)
-    && nat_le (sum_by (λ c. c.step / bytes_read c) (one_a_plane (components desc))) 4
+is_elements desc = not (some_pair desc differ_in_shape) && list_all (is_aligned desc) (components desc) && nat_le (element_count (components desc)) 4
 
 -- the lowest bit of a component in its pixel, taken as one number in the format's byte order
 abbrev pub word_shift : Desc → Comp → ℕ
@@ -65,25 +77,38 @@ word_shift desc c =
     let first = count_of (first_byte desc c) in
     8 * (if desc.be then c.step - first - bytes_read c else first) + c.shift
 
--- whether a bit of that number belongs to no component
+-- whether a bit of that number belongs to a component, and whether to none
+abbrev pub has_word_bit : Desc → ℕ → Comp → Bool
+has_word_bit desc bit c = nat_le (word_shift desc c) bit && nat_lt bit (word_shift desc c + c.depth)
+
 abbrev pub is_spare : Desc → ℕ → Bool
-is_spare desc bit = not (some_component desc (λ c. nat_le (word_shift desc c) bit && nat_lt bit (word_shift desc c + c.depth)))
+is_spare desc bit = not (some_component desc (has_word_bit desc bit))
 
 -- where a run of such bits begins
 abbrev pub begins_spare : Desc → ℕ → Bool
 begins_spare desc bit = is_spare desc bit && (nat_eq bit 0 || not (is_spare desc (bit - 1)))
 
--- Word: a pixel is one number of 1, 2 or 4 bytes, which its components and the runs of spare bits cut into at most four fields
+-- how many such runs a pixel of so many bytes has
+abbrev pub spare_runs : Desc → ℕ → ℕ
+spare_runs desc step = count_by (begins_spare desc) (range_with_len 0 (8 * step))
+
+-- a pixel of so many bytes is a number of 1, 2 or 4 bytes, which the components and the runs of spare bits cut into at most four fields
+abbrev pub has_few_fields : Desc → ℕ → Bool
+has_few_fields desc step = (nat_eq step 1 || nat_eq step 2 || nat_eq step 4) && nat_le (desc.count + spare_runs desc step) 4
+
+-- Word: a pixel lies in one plane, and is such a number
 abbrev pub is_word : Desc → Bool
-is_word desc =
-    nat_eq (length (one_a_plane (components desc))) 1
-    && list_all (λ c. (nat_eq c.step 1 || nat_eq c.step 2 || nat_eq c.step 4)
-    && nat_le (desc.count + count_by (begins_spare desc) (range_with_len 0 (8 * c.step))) 4) (components desc)
+is_word desc = nat_eq (length (one_a_plane (components desc))) 1 && list_all (λ c. has_few_fields desc c.step) (components desc)
+
+-- a component that is the only byte of its pixel
+abbrev pub is_byte : Comp → Bool
+is_byte c = nat_eq c.plane 0 && nat_eq c.step 1 && int_eq c.offset (pos 0) && nat_eq c.shift 0 && nat_eq c.depth 8
 
 -- a palette format has one index of a byte a pixel
 abbrev pub is_index : Desc → Bool
-is_index desc = not desc.be && not (some_component desc (λ c. not (nat_eq c.plane 0 && nat_eq c.step 1 && int_eq c.offset (pos 0) && nat_eq c.shift 0 && nat_eq c.depth 8)))
+is_index desc = not desc.be && not (some_component desc (λ c. not (is_byte c)))
 
+-- the steps of a plane differ, or no layout fits, or a palette format has another index
 abbrev pub is_mixed : Desc → Bool
 is_mixed desc = some_pair desc differ_in_step || not (is_elements desc || is_word desc) || (desc.palette && not (is_index desc))
 
