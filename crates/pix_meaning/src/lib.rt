@@ -3,6 +3,12 @@
 
 mod laws;
 mod pair;
+#[cfg(test)]
+mod tests;
+mod valid;
 
-pub use laws::{has_channels, has_one_target_frame, keeps_codes, passes_codes, passes_luma_and_chroma, worked_conversions};
+pub use laws::{
+    has_channels, has_one_target_frame, keeps_codes, passes_codes, passes_luma_and_chroma, worked_conversions,
+};
 pub use pair::{Pair, Side};
+pub use valid::pair_valid;
