@@ -5,7 +5,7 @@ use Rattle.std.proofs.lemmas.Nat.{pow_below, pow_pos}
 use Rattle.frac_math.specs.Fraction.{ℚ, nat, over, ◌*ℚ◌, ◌<ℚ◌, inverse}
 use Rattle.frac_math.proofs.Ring.{var, num, ◌⊕◌, ◌⊖◌, ◌⊗◌, ring_from, done, by}
 use Rattle.frac_math.proofs.FractionRing.{fractions, Stands, same, itself, over_stands, mul_stands, mul-inverse}
-use Rattle.frac_math.proofs.FractionOrder.{cross_by_le, lt_of_not_le_ℚ}
+use Rattle.frac_math.proofs.FractionOrder.{lt_by_cross}
 use Rattle.colour_matrix.specs.Levels.{levels, scaled_to, from_code, to_code}
 use Rattle.colour_matrix.specs.declared.class.Class.{Class}
 use Rattle.colour_matrix.specs.declared.class.Class.TheVariants.{Direct, Luma, Chroma}
@@ -20,8 +20,7 @@ scaled_is depth code =
     same _ _ _ _ _ _ (over_stands (pos (2 ^ depth * code)) 256 (omega arith)) (mul_stands _ _ _ _ _ _ (over_stands (pos (2 ^ depth)) 256 (omega arith)) (itself (nat code))) refl
 
 positive_of : (x : ℚ) (n d : ℕ) → Stands x (pos n) d → 0 < n → nat 0 <ℚ x
-positive_of x n d s h =
-    lt_of_not_le_ℚ (nat 0) x (λ p. let e = cross_by_le x (nat 0) (pos n) (pos 0) d 1 s (itself (nat 0)) p in absurd (omega (arith, ints, e)))
+positive_of x n d s h = lt_by_cross (nat 0) x (pos 0) (pos n) 1 d (itself (nat 0)) s (omega (arith, ints))
 
 whole_positive : (n : ℕ) → 0 < n → nat 0 <ℚ nat n
 whole_positive n h = positive_of (nat n) n 1 (itself (nat n)) h

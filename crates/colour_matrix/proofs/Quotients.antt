@@ -1,6 +1,6 @@
 -- Quotients and differences of natural numbers, as fractions.
 use Rattle.std.proofs.Common.{◌≡◌, ℕ, ◌-◌, ◌*◌, ◌<◌, ◌≤◌, pos, neg_ℤ, [], ◌∷◌, refl, sym, ◌∙◌, ap, arith}
-use Rattle.frac_math.specs.Fraction.{ℚ, nat, over, ◌+ℚ◌, ◌*ℚ◌, ◌-ℚ◌, ◌/ℚ◌, inverse, neg_ℚ}
+use Rattle.frac_math.specs.Fraction.{ℚ, nat, over, ◌+ℚ◌, ◌*ℚ◌, ◌-ℚ◌, ◌/ℚ◌, ratio, inverse, neg_ℚ}
 use Rattle.frac_math.proofs.Ring.{var, num, ◌⊕◌, ◌⊖◌, ◌⊗◌, ring, ring_from, done, by}
 use Rattle.frac_math.proofs.Integers.{ints_ring}
 use Rattle.frac_math.proofs.FractionRing.{fractions, same, itself, over_stands, mul_stands, neg_stands, whole-add, whole-mul, mul-inverse}
@@ -19,7 +19,7 @@ inverse_of x n e h = rw e (mul-inverse (nat n) (λ z. absurd (let f : n ≡ 0 = 
 
 -- n/d as a fraction of two whole numbers, and as a quotient of two fractions
 over_is : (n d : ℕ) → 0 < d → over (pos n) d ≡ nat n /ℚ nat d
-unfolding inverse
+unfolding inverse ratio
 over_is n d h =
     same _ _ _ _ _ _ (over_stands (pos n) d h) (mul_stands _ _ _ _ _ _ (itself (nat n)) (over_stands (pos 1) d h))
     (ring ints_ring (pos n ∷ pos d ∷ []) (var 0 ⊗ (num (pos 1) ⊗ var 1)) (var 0 ⊗ num (pos 1) ⊗ var 1) refl)

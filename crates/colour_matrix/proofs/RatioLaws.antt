@@ -5,9 +5,10 @@ use Rattle.std.specs.Option.{SomeIff}
 use Rattle.std.specs.Int.{w128, cast_signed, cast_unsigned}
 use Rattle.std.specs.Int.RustNames.{FitsSigned}
 use Rattle.std.proofs.lemmas.Int.{ints, to_z-of_z, quot_fits}
-use Rattle.frac_math.specs.Gcd.{gcd, gcd_pos}
-use Rattle.frac_math.specs.Fraction.{ℚ, over}
-use Rattle.frac_math.specs.Checked.{RatioFits, ratio}
+use Rattle.frac_math.specs.Gcd.{gcd}
+use Rattle.frac_math.specs.LowestTerms.{gcd_pos}
+use Rattle.frac_math.specs.Fraction.{ℚ, over, ratio}
+use Rattle.frac_math.specs.Checked.{RatioFits}
 
 -- the lowest terms are no greater than the terms
 ratio_fits : (n : ℤ) (d : ℕ) → 0 < d → FitsSigned w128 n → FitsSigned w128 (pos d) → RatioFits n (pos d)
