@@ -1,23 +1,19 @@
 -- What passes a conversion as it is.
-use Rattle.std.proofs.Common.{◌≡◌, ℕ, zero, suc, ◌+◌, ◌<◌, ◌≤◌, Bool, true, false, ◌&&◌, ◌||◌, nat_eq, if◌then◌else◌, List, refl, sym, ap, ◌∙◌, subst, arith}
-use Rattle.frac_math.specs.Fraction.{ℚ, nat, ◌<ℚ◌}
+use Rattle.std.proofs.Common.{◌≡◌, ℕ, zero, suc, ◌+◌, ◌<◌, ◌≤◌, true, false, ◌&&◌, nat_eq, if◌then◌else◌, List, refl, sym, ap, ◌∙◌, subst, arith}
+use Rattle.frac_math.specs.Fraction.{nat, ◌<ℚ◌}
 use Rattle.pix_desc.specs.declared.desc.Desc.{Desc}
 use Rattle.pix_desc.specs.Component.{component_of}
 use Rattle.pix_desc.specs.Layouts.{IsValid}
 use Rattle.pix_desc.proofs.Valid.{laid_out}
-use Rattle.colour_matrix.specs.Matrix.{IsMatrix}
 use Rattle.colour_matrix.specs.Values.{Values, value_at}
 use Rattle.colour_matrix.specs.Levels.{levels, from_code, to_code}
-use Rattle.colour_matrix.specs.declared.class.Class.{Class}
 use Rattle.colour_matrix.specs.declared.class.Class.TheVariants.{Direct}
-use Rattle.colour_matrix.specs.declared.class.Range.{Range}
 use Rattle.colour_matrix.specs.declared.class.Range.TheVariants.{Full}
-use Rattle.colour_matrix.specs.declared.class.Levels.{Levels}
 use Rattle.colour_matrix.proofs.ColourLaws.{from_rgb-to_rgb}
 use Rattle.colour_matrix.proofs.LevelLaws.{scale_positive, to_code-from_code}
 use Rattle.pix_meaning.specs.declared.pair.Side.{Side}
 use Rattle.pix_meaning.specs.declared.pair.Pair.{Pair}
-use Rattle.pix_meaning.specs.Pairs.{IsValidPair, is_rgb, component_count, depth_of, has_channel, component_at, channel_of, class_of, levels_of}
+use Rattle.pix_meaning.specs.Pairs.{is_rgb, component_count, depth_of, has_channel, component_at, channel_of, class_of, levels_of}
 use Rattle.pix_meaning.specs.Values.{source_component, source_value, source_values, rgb_values, target_values, wanted}
 use Rattle.pix_meaning.specs.Laws.{PassesLumaAndChroma, PassesCodes}
 use Rattle.pix_meaning.proofs.Channels.{has_channels, component_count_most}

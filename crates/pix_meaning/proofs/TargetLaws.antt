@@ -1,5 +1,5 @@
 -- A source frame has exactly one target frame, and codes stay as they are.
-use Rattle.std.proofs.Common.{◌≡◌, ℕ, ◌+◌, ◌-◌, ◌^◌, ◌<◌, false, ℤ, pos, negsuc, ◌≤ℤ◌, ◌<ℤ◌, if◌then◌else◌, List, refl, ap, ◌∙◌, subst, arith}
+use Rattle.std.proofs.Common.{◌≡◌, ℕ, ◌+◌, ◌-◌, ◌^◌, ◌<◌, false, ℤ, pos, negsuc, ◌<ℤ◌, if◌then◌else◌, List, ap, ◌∙◌, subst, arith}
 use Rattle.std.specs.Int.{int_min, int_max}
 use Rattle.std.proofs.lemmas.Int.{ints, clamps}
 use Rattle.std.proofs.lemmas.Nat.{pow_pos}
@@ -11,7 +11,6 @@ use Rattle.pix_desc.specs.Frame.{FitDepths}
 use Rattle.pix_desc.proofs.FrameLaws.{frame_says, only_frame}
 use Rattle.pix_meaning.specs.declared.pair.Pair.{Pair}
 use Rattle.pix_meaning.specs.Pairs.{IsValidPair, depth_of}
-use Rattle.pix_meaning.specs.Values.{wanted}
 use Rattle.pix_meaning.specs.Target.{clamped, result_of, target_rows}
 use Rattle.pix_meaning.specs.Laws.{KeepsCodes, HasOneTargetFrame}
 

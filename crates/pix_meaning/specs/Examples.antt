@@ -5,7 +5,6 @@ use Rattle.pix_desc.specs.declared.desc.Desc.{Desc}
 use Rattle.pix_desc.specs.Component.{no_component}
 use Rattle.colour_matrix.specs.Matrix.{of_parts}
 use Rattle.colour_matrix.specs.declared.matrix.Matrix.{Matrix}
-use Rattle.colour_matrix.specs.declared.class.Range.{Range}
 use Rattle.colour_matrix.specs.declared.class.Range.TheVariants.{Full, Limited}
 use Rattle.pix_meaning.specs.declared.pair.Side.{Side}
 use Rattle.pix_meaning.specs.declared.pair.Pair.{Pair}

@@ -25,5 +25,9 @@ fn is_valid_side(side: &Side) -> bool
 fn is_matrix(matrix: &Matrix) -> bool
     ensures { IsTrue result ↔ IsMatrix matrix.now }
 {
-    1 <= matrix.r && 1 <= matrix.b && matrix.r < matrix.q && matrix.b < matrix.q - matrix.r && matrix.q <= 16777216
+    1 <= matrix.r
+        && 1 <= matrix.b
+        && matrix.r < matrix.q
+        && matrix.b < matrix.q - matrix.r
+        && matrix.q <= 16777216
 }
