@@ -12,7 +12,7 @@ use Rattle.pix_desc.proofs.FrameLaws.{frame_says, only_frame}
 use Rattle.pix_meaning.specs.declared.pair.Pair.{Pair}
 use Rattle.pix_meaning.specs.Pairs.{IsValidPair, depth_of}
 use Rattle.pix_meaning.specs.Target.{clamped, result_of, target_rows}
-use Rattle.pix_meaning.specs.Laws.{KeepsCodes, HasOneTargetFrame}
+use Rattle.pix_meaning.specs.Laws.{KeepsCodes, ResultsFit, HasOneTargetFrame}
 
 count_of_below : (z : ℤ) (n : ℕ) → 0 < n → z <ℤ pos n → count_of z < n
 count_of_below (pos k) n some below = omega (arith, ints)
@@ -37,7 +37,7 @@ keeps_codes pair width height first frame j x y code wants below =
     ∙ ap (clamped (depth_of pair.to.desc j)) (dither_floor pair.dither x (first + y) (pos code))
     ∙ clamped_code (depth_of pair.to.desc j) code below
 
-pub result_below : (pair : Pair) (width height first : ℕ) (frame : List ℕ) (j x y : ℕ) → result_of pair width height first frame j x y < 2 ^ depth_of pair.to.desc j
+pub result_below : ResultsFit
 unfolding result_of
 result_below pair width height first frame j x y = clamped_below (depth_of pair.to.desc j) _
 

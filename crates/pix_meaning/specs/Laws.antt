@@ -1,5 +1,5 @@
 -- What the definitions keep: the laws that the functions of src/laws.rt prove.
-use Rattle.std.specs.Prelude.{◌≡◌, ℕ, ◌<◌, ◌^◌, List, true, false}
+use Rattle.std.specs.Prelude.{◌≡◌, ℕ, ◌<◌, ◌^◌, ◌+◌, List, All, true, false}
 use Rattle.frac_math.specs.Fraction.{nat}
 use Rattle.pix_desc.specs.declared.desc.Desc.{Desc}
 use Rattle.colour_matrix.specs.Matrix.{IsMatrix}
@@ -33,6 +33,21 @@ PassesCodes = (pair : Pair) (width height : ℕ) (frame : List ℕ) (i j x y : �
 abbrev pub KeepsCodes : Type 0
 KeepsCodes = (pair : Pair) (width height first : ℕ) (frame : List ℕ) (j x y code : ℕ) → wanted pair width height frame j x y ≡ nat code → code < 2 ^ depth_of pair.to.desc j
     → result_of pair width height first frame j x y ≡ code
+
+-- each code that is read of a frame of bytes fits the depth of its component
+abbrev pub SourcesFit : Type 0
+SourcesFit = (desc : Desc) (width height : ℕ) (frame : List ℕ) (j x y : ℕ) → All (λ byte. byte < 256) frame
+    → source_component desc width height frame j x y < 2 ^ depth_of desc j
+
+-- each result fits the depth of its component
+abbrev pub ResultsFit : Type 0
+ResultsFit = (pair : Pair) (width height first : ℕ) (frame : List ℕ) (j x y : ℕ) → result_of pair width height first frame j x y < 2 ^ depth_of pair.to.desc j
+
+-- A pixel of a slice, which begins at the row `first` of a frame, has the results that it has in the whole frame, where the same codes are read.
+abbrev pub SlicesAgree : Type 0
+SlicesAgree = (pair : Pair) (width height first rows : ℕ) (frame slice : List ℕ) (j x y : ℕ)
+    → ((i : ℕ) → source_component pair.from.desc width rows slice i x y ≡ source_component pair.from.desc width height frame i x (first + y))
+    → result_of pair width rows first slice j x y ≡ result_of pair width height 0 frame j x (first + y)
 
 -- A source frame has exactly one target frame: the rows that are made of the results, and no other bytes.
 pub record HasOneTargetFrame (pair : Pair) (width height first : ℕ) (frame : List ℕ) : Type 0 where

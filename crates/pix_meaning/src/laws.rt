@@ -4,7 +4,7 @@ ghost use Rattle.pix_desc.specs.declared.desc.Desc.{Desc};
 ghost use Rattle.pix_desc.specs.Layouts.{IsValid};
 ghost use Rattle.pix_meaning.specs.declared.pair.Pair.{Pair};
 ghost use Rattle.pix_meaning.specs.Pairs.{IsValidPair};
-ghost use Rattle.pix_meaning.specs.Laws.{HasChannels, PassesLumaAndChroma, PassesCodes, KeepsCodes, HasOneTargetFrame};
+ghost use Rattle.pix_meaning.specs.Laws.{HasChannels, PassesLumaAndChroma, PassesCodes, KeepsCodes, SourcesFit, ResultsFit, SlicesAgree, HasOneTargetFrame};
 ghost use Rattle.pix_meaning.specs.Examples.{WorkedConversions};
 
 /// The components of a format are its channels in another numbering.
@@ -25,6 +25,21 @@ pub fn passes_codes()
 /// A wanted value that is a code is the result, whatever the dither.
 pub fn keeps_codes()
     ensures { KeepsCodes }
+{}
+
+/// The codes that are read of a frame of bytes fit the depths of their components.
+pub fn sources_fit()
+    ensures { SourcesFit }
+{}
+
+/// The results fit the depths of their components.
+pub fn results_fit()
+    ensures { ResultsFit }
+{}
+
+/// A slice of rows has the results of the whole frame.
+pub fn slices_agree()
+    ensures { SlicesAgree }
 {}
 
 /// A source frame has exactly one target frame in a format without a palette, and so has each slice of its rows. The

@@ -8,8 +8,8 @@ mod tests;
 mod valid;
 
 pub use laws::{
-    has_channels, has_one_target_frame, keeps_codes, passes_codes, passes_luma_and_chroma,
-    worked_conversions,
+    has_channels, has_one_target_frame, keeps_codes, passes_codes, passes_luma_and_chroma, results_fit,
+    slices_agree, sources_fit, worked_conversions,
 };
 pub use pair::{Pair, Side};
 pub use valid::pair_valid;
