@@ -1,5 +1,5 @@
 -- What the checked calls answer, as computed and as stated.
-use Rattle.std.proofs.Common.{◌≡◌, ◌^◌, ◌*◌, Bool, true, false, not, ◌&&◌, if◌then◌else◌, ltb-true, lt-ltb, ℤ, pos, negsuc, ◌+ℤ◌, ◌*ℤ◌, refl, ap, arith}
+use Rattle.std.proofs.Common.{◌≡◌, ◌^◌, Bool, true, false, not, ◌&&◌, if◌then◌else◌, ltb-true, lt-ltb, ℤ, pos, negsuc, ◌+ℤ◌, ◌*ℤ◌, refl, arith}
 use Rattle.std.proofs.lemmas.Int.{ints}
 use Rattle.std.proofs.lemmas.Bool.Decides.{Decides-int_eq}
 use Rattle.std.specs.Prelude.{Option, Some, None}

@@ -78,6 +78,13 @@ list_any-place p (x ∷ xs) d some =
       | inr later ↦ let rest = list_any-place p xs d later in (suc rest.0, omega (arith, rest.1), rest.2)
     ]
 
+pub list_any-below_at : (p : ℕ → Bool) (n : ℕ) → list_any p (range_with_len 0 n) ≡ true → (k : ℕ) × (k < n) × (p k ≡ true)
+list_any-below_at p n some =
+    let place = list_any-place p (range_with_len 0 n) 0 some in
+    let within : place.0 < n = omega (arith, place.1, length-range_with_len 0 n) in
+    let at : get_or (range_with_len 0 n) place.0 0 ≡ place.0 = omega (arith, get_or-range_with_len 0 n place.0 0 within) in
+    (place.0, within, ap p (sym at) ∙ place.2)
+
 pub some_component-at : (desc : Desc) (has : Comp → Bool) → some_component desc has ≡ true → (i : ℕ) × (i < desc.count) × (has (component_of desc i) ≡ true)
 some_component-at desc has some =
     let place = list_any-place has (components desc) no_component some in

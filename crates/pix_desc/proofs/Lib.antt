@@ -1,8 +1,11 @@
+pub mod Bits
+pub mod ReplacedBits
 pub mod Components
+pub mod Kept
 pub mod Pairs
+pub mod Places
 pub mod Planes
 pub mod Valid
-pub mod Bits
 pub mod BitsOfBytes
 pub mod FramePlaces
 pub mod FrameReads

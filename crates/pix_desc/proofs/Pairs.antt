@@ -31,19 +31,19 @@ pub some_two-all : (have : Comp → Comp → Bool) (cs : List Comp) → ((a : Co
 some_two-all have [] none turned = refl
 some_two-all have (c ∷ cs) none turned =
     once (have c c) (list_any (have c) cs) (list_any (λ a. have a c) cs) (list_any (λ a. list_any (have a) cs) cs) (some_two have cs) _
-      (none c)
-      (list_any-or (λ a. have a c) (λ a. list_any (have a) cs) cs)
-      (list_any-same (λ a. have a c) (have c) cs (λ a. turned a c))
-      (some_two-all have cs none turned)
+    (none c)
+    (list_any-or (λ a. have a c) (λ a. list_any (have a) cs) cs)
+    (list_any-same (λ a. have a c) (have c) cs (λ a. turned a c))
+    (some_two-all have cs none turned)
 
 -- all elements pass a test where none fails it
 pub list_all-not_any : (p : Comp → Bool) (cs : List Comp) → list_all p cs ≡ not (list_any (λ c. not (p c)) cs)
 list_all-not_any p [] = refl
 list_all-not_any p (c ∷ cs) = denied (p c) (list_all p cs) (list_any (λ d. not (p d)) cs) (list_all-not_any p cs)
   where
-  denied : (a b n : Bool) → b ≡ not n → (a && b) ≡ not (not a || n)
-  denied true b n e = e
-  denied false b n e = refl
+    denied : (a b n : Bool) → b ≡ not n → (a && b) ≡ not (not a || n)
+    denied true b n e = e
+    denied false b n e = refl
 
 -- the two tests of layouts that are so
 pub some_two-differ_in_step : (cs : List Comp) → list_any (λ a. list_any (differ_in_step a) cs) cs ≡ some_two differ_in_step cs

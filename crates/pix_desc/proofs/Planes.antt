@@ -1,15 +1,15 @@
 -- The planes that components lie in.
-use Rattle.std.proofs.Common.{◌≡◌, ℕ, zero, suc, ◌+◌, ◌*◌, ◌/◌, ◌<◌, ◌≤◌, Bool, true, false, not, ◌||◌, ◌&&◌, nat_eq, cond, List, [], ◌∷◌, length, get_or, take, drop, refl, sym, ◌∙◌, ap, add-one, rules, arith}
+use Rattle.std.proofs.Common.{◌≡◌, ℕ, suc, ◌+◌, ◌/◌, ◌<◌, ◌≤◌, Bool, true, false, not, ◌||◌, ◌&&◌, nat_eq, cond, List, [], ◌∷◌, length, get_or, take, drop, refl, sym, ◌∙◌, ap, add-one, arith}
 use Rattle.std.specs.Prelude.{filter, sum_by}
 use Rattle.std.specs.List.{list_any, list_all}
 use Rattle.std.proofs.Math.Seq.{drop-cons}
 use Rattle.std.proofs.Math.ListN.{drop_of_length-le}
-use Rattle.std.proofs.lemmas.Bool.{cases_Bool, both_ways, eqb-true, eq-eqb, cond-true, cond-false, cond_both}
+use Rattle.std.proofs.lemmas.Bool.{eq-eqb}
 use Rattle.std.proofs.lemmas.Bool.Decides.{nat_tests}
 use Rattle.std.proofs.lemmas.List.Folds.{list_any_more}
 use Rattle.std.proofs.lemmas.List.Sums.{sum_by-cons}
 use Rattle.pix_desc.specs.declared.desc.Comp.{Comp}
-use Rattle.pix_desc.specs.Component.{no_component, bytes_read}
+use Rattle.pix_desc.specs.Component.{bytes_read}
 use Rattle.pix_desc.specs.Layouts.{one_a_plane, element_count}
 
 -- no component that came before lies in the plane of this one
@@ -53,9 +53,9 @@ elements_left-all cs i past = ap (λ ds. sum_by elements_of (filter (is_new (tak
 sum_by-filter_cons : (p : Comp → Bool) (c : Comp) (cs : List Comp) → sum_by elements_of (filter p (c ∷ cs)) ≡ cond (p c) (elements_of c) 0 + sum_by elements_of (filter p cs)
 sum_by-filter_cons p c cs = counted (p c)
   where
-  counted : (b : Bool) → sum_by elements_of (cond b (c ∷ filter p cs) (filter p cs)) ≡ cond b (elements_of c) 0 + sum_by elements_of (filter p cs)
-  counted true = sum_by-cons elements_of c (filter p cs)
-  counted false = omega arith
+    counted : (b : Bool) → sum_by elements_of (cond b (c ∷ filter p cs) (filter p cs)) ≡ cond b (elements_of c) 0 + sum_by elements_of (filter p cs)
+    counted true = sum_by-cons elements_of c (filter p cs)
+    counted false = omega arith
 
 -- a component's plane is new to those that came before and to this one
 more_seen : (seen with : Bool) (x y : ℕ) → with ≡ (seen || nat_eq x y) → not with ≡ (not (nat_eq y x) && not seen)
@@ -86,11 +86,11 @@ others_none p (c ∷ cs) =
     let other : ℕ → Comp → Bool = λ q e. not (nat_eq e.plane q) in
     let one = one_a_plane cs in
     others_more (nat_eq c.plane p) (list_all (λ e. nat_eq e.plane p) cs) c (filter (other p) (filter (other c.plane) one)) (filter (other p) one)
-      (λ here. filter-both (other p) (other c.plane) (other p) one (λ e. same_other c.plane p e.plane here))
-      (others_none p cs)
+    (λ here. filter-both (other p) (other c.plane) (other p) one (λ e. same_other c.plane p e.plane here))
+    (others_none p cs)
   where
-  same_other : (q p e : ℕ) → nat_eq q p ≡ true → not (nat_eq e p) ≡ (not (nat_eq e q) && not (nat_eq e p))
-  same_other q p e here = grind (arith, nat_tests)
+    same_other : (q p e : ℕ) → nat_eq q p ≡ true → not (nat_eq e p) ≡ (not (nat_eq e q) && not (nat_eq e p))
+    same_other q p e here = grind (arith, nat_tests)
 
 -- and this plane is the first's
 one_more : (n : ℕ) → nat_eq n 0 ≡ nat_eq (suc n) 1

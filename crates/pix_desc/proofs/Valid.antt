@@ -1,5 +1,5 @@
 -- What a descriptor that passes the check is known to be.
-use Rattle.std.proofs.Common.{◌≡◌, ◌≢◌, ℕ, ◌+◌, ◌<◌, ◌≤◌, pos, negsuc, ℤ, ◌+ℤ◌, Bool, true, false, not, ◌||◌, ◌&&◌, if◌then◌else◌, nat_eq, nat_le, Result, Err, IsOk, inl, inr, refl, sym, ap, arith}
+use Rattle.std.proofs.Common.{◌≡◌, ◌≢◌, ℕ, ◌+◌, ◌*◌, ◌<◌, ◌≤◌, pos, negsuc, ℤ, ◌+ℤ◌, Bool, true, false, not, ◌||◌, ◌&&◌, if◌then◌else◌, nat_eq, nat_le, Result, Err, IsOk, List, length, inl, inr, refl, sym, ap, arith}
 use Rattle.std.specs.List.{range_with_len, list_any, list_all}
 use Rattle.std.specs.Ordering.{int_eq}
 use Rattle.std.proofs.lemmas.Bool.{both_ways, false≢true, not-false, and_parts, and_cases, eqb-true, eq-eqb, or_parts, cases_order, cases_lt}
@@ -10,7 +10,7 @@ use Rattle.pix_desc.specs.declared.desc.Desc.{Desc}
 use Rattle.pix_desc.specs.declared.desc.Layout.{Layout}
 use Rattle.pix_desc.specs.declared.desc.DescFault.{DescFault}
 use Rattle.pix_desc.specs.declared.desc.DescFault.TheVariants.{ComponentCount, DepthRange, Overlap, OutsideStep, MixedLayout, PlaneCount}
-use Rattle.pix_desc.specs.Component.{no_component, components, component_of, bytes_read, first_byte, bit_place, reads_bit, count_of}
+use Rattle.pix_desc.specs.Component.{no_component, components, component_of, bytes_read, first_byte, bit_place, reads_bit, count_of, start_of}
 use Rattle.pix_desc.specs.Frame.{plane_step}
 use Rattle.pix_desc.specs.Layouts.{IsValid, IsLaidOut, checked, is_count, some_component, some_pair, is_depth, overlap, is_inside, differ_in_step, is_elements, is_word, is_index, is_mixed, has_all_planes}
 use Rattle.pix_desc.proofs.Components.{list_any-below_false, list_all-below_true, list_all-map_true, length-components, get_or-components, some_component-false, some_component-at, some_pair-false, step_in-plane}
@@ -141,3 +141,8 @@ laid_out desc v =
             | inr (inr behind) ↦ λ e. unlike_bits desc (component_of desc j) (component_of desc i) b a (some_pair-false desc (overlap desc) j i passed.apart behind first) (sym plane) in_b in_a (sym e)
           ];
     }
+
+-- what component j of pixel x is read from lies in a row that has the pixel
+pub inside_row : (desc : Desc) (j x : ℕ) (row : List ℕ) → IsValid desc → j < desc.count → (x + 1) * (component_of desc j).step ≤ length row
+    → start_of desc (component_of desc j) x + bytes_read (component_of desc j) ≤ length row
+inside_row desc j x row v listed inside = let within = (laid_out desc v).inside j listed in omega (arith, within)

@@ -1,7 +1,7 @@
 // The check of a descriptor.
-ghost use Rattle.std.specs.Prelude.{◌≡◌, ◌≤◌, not, nat_eq, IsTrue};
+ghost use Rattle.std.specs.Prelude.{◌≡◌, ◌≤◌, not, nat_eq, IsTrue, OnOk};
 ghost use Rattle.std.specs.List.{list_any, list_all, range_with_len};
-ghost use Rattle.pix_desc.specs.Layouts.{is_count, some_component, some_two, some_pair, is_depth, overlap, is_inside, differ_in_step, is_byte, is_index, is_mixed, has_all_planes, checked};
+ghost use Rattle.pix_desc.specs.Layouts.{is_count, some_component, some_two, some_pair, is_depth, overlap, is_inside, differ_in_step, is_byte, is_index, is_mixed, has_all_planes, checked, IsValid};
 
 use crate::layout::is_elements;
 use crate::place::{bytes_read, components, first_byte, is_used, overlap};
@@ -13,7 +13,8 @@ use crate::{Comp, Desc, DescFault, Layout};
 /// A refused one gives the first fault, in the order of `DescFault`.
 #[tactic(auto, unfolding(crate::specs::Layouts::checked))]
 pub fn check(desc: &Desc) -> Result<Layout, DescFault>
-    ensures { result ≡ checked desc.now }
+    ensures answer { result ≡ checked desc.now }
+    ensures valid { OnOk result (IsValid desc.now) }
 {
     if !has_count(desc) {
         return Err(DescFault::ComponentCount);
@@ -33,7 +34,11 @@ pub fn check(desc: &Desc) -> Result<Layout, DescFault>
     if !has_all_planes(desc) {
         return Err(DescFault::PlaneCount);
     }
-    if is_elements(desc) { Ok(Layout::Elements) } else { Ok(Layout::Word) }
+    if is_elements(desc) {
+        Ok(Layout::Elements)
+    } else {
+        Ok(Layout::Word)
+    }
 }
 
 /// Whether the flags allow the number of components.
@@ -153,15 +158,15 @@ fn is_mixed(desc: &Desc) -> bool
     requires { desc.now.count ≤ 4 }
     ensures { result ≡ is_mixed desc.now }
 {
-    has_mixed_steps(components(desc)) || !(is_elements(desc) || is_word(desc)) || (desc.palette && !is_index(desc))
+    has_mixed_steps(components(desc))
+        || !(is_elements(desc) || is_word(desc))
+        || (desc.palette && !is_index(desc))
 }
 
 /// Whether a component lies in each plane below one.
 fn has_planes_below(desc: &Desc, plane: u8) -> bool
     requires { desc.now.count ≤ 4 }
-    ensures {
-        result ≡ list_all (λ p. some_component desc.now (λ c. nat_eq c.plane p)) (range_with_len 0 plane)
-    }
+    ensures { result ≡ list_all (λ p. some_component desc.now (λ c. nat_eq c.plane p)) (range_with_len 0 plane) }
 {
     (0..plane).all(|below| is_used(components(desc), below))
 }
@@ -171,5 +176,7 @@ fn has_all_planes(desc: &Desc) -> bool
     requires { desc.now.count ≤ 4 }
     ensures { result ≡ has_all_planes desc.now }
 {
-    components(desc).iter().all(|comp| has_planes_below(desc, comp.plane))
+    components(desc)
+        .iter()
+        .all(|comp| has_planes_below(desc, comp.plane))
 }

@@ -1,18 +1,11 @@
 // Pixels that are numbers of equal size.
 ghost use Rattle.std.specs.Prelude.{◌≡◌, ◌≤◌, length};
 ghost use Rattle.std.specs.List.{list_any, list_all};
-ghost use Rattle.pix_desc.specs.Component.{components, count_of, first_byte};
+ghost use Rattle.pix_desc.specs.Component.{components};
 ghost use Rattle.pix_desc.specs.Layouts.{some_two, differ_in_shape, is_aligned, element_count, is_elements};
 
-use crate::place::{bytes_read, components, first_byte, is_used};
+use crate::place::{bytes_read, components, first_place, is_used};
 use crate::{Comp, Desc};
-
-/// The first byte that the component is read from, and 0 where it lies before the pixel.
-pub fn first_place(desc: &Desc, comp: &Comp) -> u16
-    ensures { result ≡ count_of (first_byte desc.now comp.now) }
-{
-    first_byte(desc, comp).max(0) as u16
-}
 
 /// Whether two components differ in shift or in depth.
 fn differ_in_shape(a: &Comp, b: &Comp) -> bool

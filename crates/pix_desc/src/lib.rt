@@ -2,6 +2,7 @@
 #![tactic(auto)]
 
 mod checks;
+mod component;
 mod desc;
 mod frame;
 mod laws;
@@ -10,6 +11,10 @@ mod place;
 mod word;
 
 pub use checks::check;
+pub use component::{read_comp, write_comp};
 pub use desc::{Comp, Desc, DescFault, Layout};
 pub use frame::{agreeing_values_frame, has_one_frame, same_values_frame};
-pub use laws::passes_laid_out;
+pub use laws::{component_has_its_bits, other_components_stay, passes_laid_out};
+
+#[cfg(test)]
+mod tests;

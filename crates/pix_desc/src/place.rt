@@ -1,7 +1,7 @@
 // Where a component's bits lie in its pixel.
 ghost use Rattle.std.specs.Prelude.{◌≡◌, ◌-◌, ◌/◌, ◌≤◌, ◌&&◌, not, nat_eq, if◌then◌else◌};
 ghost use Rattle.std.specs.List.{list_any};
-ghost use Rattle.pix_desc.specs.Component.{components, is_narrow, bytes_read, first_byte, bit_place, reads_bit};
+ghost use Rattle.pix_desc.specs.Component.{components, is_narrow, bytes_read, count_of, first_byte, bit_place, reads_bit};
 ghost use Rattle.pix_desc.specs.Layouts.{share_bit, overlap};
 
 use crate::{Comp, Desc};
@@ -40,7 +40,18 @@ pub fn first_byte(desc: &Desc, comp: &Comp) -> i16
     ensures { result ≡ first_byte desc.now comp.now }
 {
     let offset = i16::from(comp.offset);
-    if desc.be && is_narrow(comp) { offset + 1 } else { offset }
+    if desc.be && is_narrow(comp) {
+        offset + 1
+    } else {
+        offset
+    }
+}
+
+/// The first byte that the component is read from, and 0 where it lies before the pixel.
+pub fn first_place(desc: &Desc, comp: &Comp) -> u16
+    ensures { result ≡ count_of (first_byte desc.now comp.now) }
+{
+    first_byte(desc, comp).max(0) as u16
 }
 
 /// The byte of a component's number that has a bit of it, in the order in which they stand in the pixel.
@@ -48,7 +59,11 @@ fn byte_with(desc: &Desc, comp: &Comp, bit: u16) -> u16
     ensures { result ≡ (if desc.now.be && not (is_narrow comp.now) then 1 - bit / 8 else bit / 8) }
 {
     let byte = bit / 8;
-    if desc.be && !is_narrow(comp) { 1u16.saturating_sub(byte) } else { byte }
+    if desc.be && !is_narrow(comp) {
+        1u16.saturating_sub(byte)
+    } else {
+        byte
+    }
 }
 
 /// The bit of the pixel that is bit `i` of the component's value, counted from the lowest bit of the pixel's first byte.

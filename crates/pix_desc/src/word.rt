@@ -4,8 +4,7 @@ ghost use Rattle.std.specs.List.{list_all};
 ghost use Rattle.pix_desc.specs.Component.{components};
 ghost use Rattle.pix_desc.specs.Layouts.{one_a_plane, some_component, word_shift, has_word_bit, is_spare, begins_spare, spare_runs, has_few_fields, is_word};
 
-use crate::layout::first_place;
-use crate::place::{bytes_read, components};
+use crate::place::{bytes_read, components, first_place};
 use crate::{Comp, Desc};
 
 /// Whether all components lie in the plane.
@@ -31,7 +30,9 @@ fn word_shift(desc: &Desc, comp: &Comp) -> u16
 {
     let first = first_place(desc, comp);
     let bytes_below = if desc.be {
-        u16::from(comp.step).saturating_sub(first).saturating_sub(u16::from(bytes_read(comp)))
+        u16::from(comp.step)
+            .saturating_sub(first)
+            .saturating_sub(u16::from(bytes_read(comp)))
     } else {
         first
     };
@@ -52,7 +53,9 @@ fn is_taken(desc: &Desc, bit: u16) -> bool
     requires { desc.now.count ≤ 4 }
     ensures { result ≡ some_component desc.now (has_word_bit desc.now bit) }
 {
-    components(desc).iter().any(|comp| has_word_bit(desc, comp, bit))
+    components(desc)
+        .iter()
+        .any(|comp| has_word_bit(desc, comp, bit))
 }
 
 /// Whether it belongs to no component.
@@ -76,7 +79,9 @@ fn spare_runs(desc: &Desc, step: u8) -> usize
     requires { desc.now.count ≤ 4 }
     ensures { result ≡ spare_runs desc.now step }
 {
-    (0..8 * u16::from(step)).filter(|bit| begins_spare(desc, *bit)).count()
+    (0..8 * u16::from(step))
+        .filter(|bit| begins_spare(desc, *bit))
+        .count()
 }
 
 /// Whether a pixel of `step` bytes is one number of 1, 2 or 4 bytes that has at most four fields.
@@ -92,7 +97,9 @@ fn is_divided(desc: &Desc) -> bool
     requires { desc.now.count ≤ 4 }
     ensures { result ≡ list_all (λ c. has_few_fields desc.now c.step) (components desc.now) }
 {
-    components(desc).iter().all(|comp| has_few_fields(desc, comp.step))
+    components(desc)
+        .iter()
+        .all(|comp| has_few_fields(desc, comp.step))
 }
 
 /// Whether a pixel is one number that components and spare bits cut into at most four fields.

@@ -1,4 +1,4 @@
-use Rattle.std.proofs.Common.{◌∙◌, rules}
+use Rattle.std.proofs.Common.{rules}
 use Rattle.pix_desc.specs.Component.{components}
 use Rattle.pix_desc.specs.Layouts.{is_byte}
 use Rattle.pix_desc.proofs.Pairs.{list_all-not_any}

@@ -1,4 +1,4 @@
-use Rattle.std.proofs.Common.{◌≡◌, ◌+◌, ◌%◌, pos, ◌+ℤ◌, ◌*ℤ◌, rules, arith, ap}
+use Rattle.std.proofs.Common.{◌≡◌, ◌+◌, ◌%◌, pos, ◌+ℤ◌, ◌*ℤ◌, rules, arith}
 use Rattle.std.proofs.lemmas.Int.{ints}
 use Rattle.pix_desc.specs.Component.{bit_place, first_byte}
 use Rattle.pix_desc.proofs.place.bit_place.Goals as goal

@@ -1,5 +1,4 @@
 use Rattle.std.proofs.Common.{◌≡◌, ◌∙◌, ap, take, length, rules}
-use Rattle.pix_desc.specs.Component.{components}
 use Rattle.pix_desc.proofs.Components.{take-comps}
 use Rattle.pix_desc.proofs.place.components.Goals as goal
 

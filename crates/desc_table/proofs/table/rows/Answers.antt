@@ -1,0 +1,7 @@
+use Rattle.std.proofs.Common.{refl}
+use Rattle.desc_table.specs.Format.{formats}
+use Rattle.desc_table.proofs.table.rows.Goals as goal
+
+pub returns-clause-value : goal.returns-clause-value
+unfolding formats
+returns-clause-value c = refl
