@@ -28,7 +28,7 @@ unfolding target_values rgb_values
 passes_rgb from to v p q = rw (p, q) refl
 
 -- the value of a channel that is there
-value_there : (side : Side) (width height : ℕ) (frame : List ℕ) (x y c : ℕ) → has_channel side.desc c ≡ true
+pub value_there : (side : Side) (width height : ℕ) (frame : List ℕ) (x y c : ℕ) → has_channel side.desc c ≡ true
     → source_value side width height frame x y c ≡ from_code (levels_of side c) (nat (source_component side.desc width height frame (component_at side.desc c) x y))
 unfolding source_value
 value_there side width height frame x y c there = rw there refl

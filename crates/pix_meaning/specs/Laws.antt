@@ -45,8 +45,8 @@ ResultsFit = (pair : Pair) (width height first : ℕ) (frame : List ℕ) (j x y 
 
 -- A pixel of a slice, which begins at the row `first` of a frame, has the results that it has in the whole frame, where the same codes are read.
 abbrev pub SlicesAgree : Type 0
-SlicesAgree = (pair : Pair) (width height first rows : ℕ) (frame slice : List ℕ) (j x y : ℕ)
-    → ((i : ℕ) → source_component pair.from.desc width rows slice i x y ≡ source_component pair.from.desc width height frame i x (first + y))
+SlicesAgree = (pair : Pair) (width height first rows : ℕ) (frame slice : List ℕ) (j x y : ℕ) → IsValidPair pair
+    → ((i : ℕ) → i < component_count pair.from.desc → source_component pair.from.desc width rows slice i x y ≡ source_component pair.from.desc width height frame i x (first + y))
     → result_of pair width rows first slice j x y ≡ result_of pair width height 0 frame j x (first + y)
 
 -- A source frame has exactly one target frame: the rows that are made of the results, and no other bytes.

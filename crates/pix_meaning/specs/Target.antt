@@ -32,5 +32,5 @@ unfoldable pub target_rows : Pair → ℕ → ℕ → ℕ → List ℕ → List 
 target_rows pair width height first frame = frame_of pair.to.desc width height (result_of pair width height first frame)
 
 -- the whole frame that is meant
-unfoldable pub target_frame : Pair → ℕ → ℕ → List ℕ → List ℕ
+abbrev pub target_frame : Pair → ℕ → ℕ → List ℕ → List ℕ
 target_frame pair width height frame = target_rows pair width height 0 frame

@@ -10,7 +10,8 @@ use Rattle.pix_meaning.specs.declared.pair.Side.{Side}
 use Rattle.pix_meaning.specs.declared.pair.Pair.{Pair}
 use Rattle.pix_meaning.specs.Pairs.{is_rgb, has_channel, component_at, channel_of, levels_of}
 
--- An entry of a palette is a little-endian number of four bytes with alpha highest, then red, green and blue: the byte of red, green, blue and alpha.
+-- An entry of a palette is a little-endian number of four bytes with alpha highest, then red, green and blue. These are the bytes of its components
+-- red, green, blue and alpha.
 abbrev pub entry_byte : ℕ → ℕ
 entry_byte zero = 2
 entry_byte (suc zero) = 1
@@ -33,6 +34,7 @@ source_value side width height frame x y c =
     if has_channel side.desc c then from_code (levels_of side c) (nat (source_component side.desc width height frame (component_at side.desc c) x y))
     else (if nat_eq c 3 then nat 1 else nat 0)
 
+-- the values of all channels of the pixel at x and y
 unfoldable pub source_values : Side → ℕ → ℕ → List ℕ → ℕ → ℕ → Values
 source_values side width height frame x y = record {
   first = source_value side width height frame x y 0;
@@ -41,7 +43,7 @@ source_values side width height frame x y = record {
   fourth = source_value side width height frame x y 3;
 }
 
--- R, G, B and alpha, by the source's matrix
+-- R, G, B and alpha, by the source's matrix (ITU-T H.273 section 8.3, matrix coefficients)
 unfoldable pub rgb_values : Side → Values → Values
 rgb_values from v = if is_rgb from.desc then v else to_rgb from.matrix v
 

@@ -3,11 +3,13 @@
 use colour_matrix::{Matrix, Range};
 use pix_desc::Desc;
 
-/// One side of a conversion. An RGB side has no use for the matrix, nor yet for the range.
+/// One side of a conversion. A side of red, green and blue has no use for its matrix and its range.
 #[derive(Clone, Copy, Debug, PartialEq, Eq)]
 pub struct Side {
     pub desc: Desc,
+    /// Between its luma and chroma, and red, green and blue.
     pub matrix: Matrix,
+    /// Of the codes of its luma and chroma.
     pub range: Range,
 }
 
