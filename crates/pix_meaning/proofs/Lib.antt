@@ -1,0 +1,5 @@
+pub mod Channels
+pub mod Passing
+pub mod PixelLaws
+pub mod TargetLaws
+pub mod Examples

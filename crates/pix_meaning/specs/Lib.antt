@@ -1,0 +1,5 @@
+pub mod Pairs
+pub mod Values
+pub mod Target
+pub mod Laws
+pub mod Examples
