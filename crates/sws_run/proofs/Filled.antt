@@ -152,7 +152,7 @@ spare_zero source target width height input output zero x y k laid packed filled
     let r = row_start target width height 0 y in
     let within : o < s = omega (arith, inside) in
     let place : (8 * (r + x * s) + k) / 8 ≡ (y * width + x) * s + o =
-        bit_in_byte s r x o k refl ∙ ap (λ n. n + (x * s + o)) (packed_row target width height y) ∙ pixel_at y width s x o in
+    bit_in_byte s r x o k refl ∙ ap (λ n. n + (x * s + o)) (packed_row target width height y) ∙ pixel_at y width s x o in
     let empty = filled.rest (y * width + x) o (in_area x y width height across down) within (λ j listed. byte_not_read target k j laid packed listed spare) in
     ap (λ b. bit_at b ((8 * (r + x * s) + k) % 8)) (ap (slice_index output) place ∙ empty) ∙ bit_at-zero ((8 * (r + x * s) + k) % 8)
 spare_zero source target width height input output (suc plane) x y k laid packed filled across down inside spare =
@@ -182,7 +182,6 @@ wanted_small : (source : Desc) (width height : ℕ) (frame : List ℕ) (j x y : 
 wanted_small source width height frame j x y true packed test =
     subst (λ d. frame_component source width height frame j x y < 2 ^ d) (is_byte source j packed (ltb-true j source.count test)).depth (frame_component_below source width height frame j x y)
 wanted_small source width height frame j x y false packed test = omega arith
-
 
 wanted_fits : (source target : Desc) (width height : ℕ) (frame : List ℕ) → is_packed_rgb source ≡ true → is_packed_rgb target ≡ true → FitDepths target width height (wanted source width height frame)
 wanted_fits source target width height frame test test' = λ j x y listed across down.

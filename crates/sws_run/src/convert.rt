@@ -29,7 +29,15 @@ fn byte_place(desc: &Desc, j: u8) -> usize
 }
 
 // Sets one byte of each pixel to a byte of the source's pixel.
-fn copy_bytes(input: &[u8], from: usize, from_step: usize, output: &mut [u8], to: usize, to_step: usize, count: usize)
+fn copy_bytes(
+    input: &[u8],
+    from: usize,
+    from_step: usize,
+    output: &mut [u8],
+    to: usize,
+    to_step: usize,
+    count: usize,
+)
     requires input { count * from_step ≤ length input.now }
     requires output { count * to_step ≤ length output.old }
     requires from { from < from_step }
@@ -75,7 +83,14 @@ fn set_component(source: &Desc, target: &Desc, j: u8, input: &[u8], output: &mut
 }
 
 /// Converts a frame of a packed RGB format to another.
-pub fn convert_frame(source: &Desc, target: &Desc, width: u32, height: u32, input: &[u8], output: &mut [u8])
+pub fn convert_frame(
+    source: &Desc,
+    target: &Desc,
+    width: u32,
+    height: u32,
+    input: &[u8],
+    output: &mut [u8],
+)
     requires source { is_packed_rgb source.now ≡ true }
     requires source_valid { IsValid source.now }
     requires target { is_packed_rgb target.now ≡ true }

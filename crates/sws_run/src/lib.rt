@@ -11,5 +11,5 @@ mod words;
 pub use ended::{Ended, SideName, StreamFault, UsageFault};
 pub use top::{Gate, OpenGate, run_sws};
 
-
-
+#[cfg(test)]
+mod tests;

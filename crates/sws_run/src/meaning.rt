@@ -38,9 +38,6 @@ pub fn is_packed_rgb(desc: &Desc) -> bool
 
 /// The law of the target frame: `target_frame` reads back as wanted, has no other bit set, and is the only such frame.
 pub fn has_one_target_frame()
-    ensures {
-        (source target : Desc) (width height : ℕ) (frame : List ℕ)
-            → IsTargetFrameLaw source target width height frame
-    }
-{
-}
+    ensures { (source target : Desc) (width height : ℕ) (frame : List ℕ)
+        → IsTargetFrameLaw source target width height frame }
+{}

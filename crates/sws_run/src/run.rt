@@ -49,7 +49,14 @@ pub fn convert_frames<S: Source, K: Sink>(
             }
             Err(_) => return Ended::ReadFault { frames: done },
         }
-        convert_frame(&source, &target, task.width, task.height, frame, target_frame);
+        convert_frame(
+            &source,
+            &target,
+            task.width,
+            task.height,
+            frame,
+            target_frame,
+        );
         match write_all(output, target_frame) {
             Ok(()) => {}
             Err(_) => return Ended::WriteFault { frames: done },

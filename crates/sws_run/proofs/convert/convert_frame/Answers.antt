@@ -9,7 +9,7 @@ pub loop-j-init : goal.loop-j-init
 loop-j-init c =
     let target = c.args.target.now in
     let size : length c.args.output.now ≡ c.args.width * c.args.height * pixel_bytes target =
-        c.requires.output ∙ packed_length target c.args.width c.args.height (packed_parts target c.requires.target) in
+    c.requires.output ∙ packed_length target c.args.width c.args.height (packed_parts target c.requires.target) in
     filled-none c.args.source.now target (c.args.width * c.args.height) c.args.input.now c.fill.new.self
     (c.fill.ensures.after (λ y e. e) ∙ ap (λ n. replicate n 0) size) (c.fill.ensures.len ∙ size)
 
