@@ -1,16 +1,16 @@
 -- A target frame of a packed format, component after component.
-use Rattle.std.proofs.Common.{◌≡◌, ◌≢◌, ℕ, zero, suc, ◌+◌, ◌-◌, ◌*◌, ◌/◌, ◌%◌, ◌^◌, ◌<◌, ◌≤◌, ◌⊎◌, inl, inr, Bool, true, false, if◌then◌else◌, nat_lt, pos, T, List, All, ltb-true, lt-ltb, le-ltb, length, replicate, slice_index, refl, sym, ◌∙◌, ap, subst, arith}
+use Rattle.std.proofs.Common.{◌≡◌, ◌≢◌, ℕ, zero, suc, ◌+◌, ◌*◌, ◌/◌, ◌%◌, ◌^◌, ◌<◌, ◌≤◌, ◌⊎◌, inl, inr, Bool, true, false, if◌then◌else◌, nat_lt, pos, T, List, All, ltb-true, lt-ltb, le-ltb, length, replicate, slice_index, refl, sym, ◌∙◌, ap, subst, arith}
 use Rattle.std.proofs.Math.Nat.{eq-or-lt_of_le, mul-le-mul_right}
 use Rattle.std.proofs.lemmas.List.{get_or-replicate, get_or_default, get_or_past, length-replicate}
 use Rattle.std.proofs.lemmas.Bool.{cases_lt}
 use Rattle.std.proofs.lemmas.Nat.Bits.{bit_at-zero}
 use Rattle.std.specs.Int.{bit_at}
 use Rattle.pix_desc.specs.declared.desc.Desc.{Desc}
-use Rattle.pix_desc.specs.Component.{component_of, bit_of}
-use Rattle.pix_desc.specs.Frame.{plane_step, row_start, frame_length, frame_component, reads_pixel_bit, frame_of, IsFrameOf, FitDepths}
+use Rattle.pix_desc.specs.Component.{bit_of}
+use Rattle.pix_desc.specs.Frame.{plane_step, row_start, frame_component, reads_pixel_bit, FitDepths}
 use Rattle.pix_desc.specs.Layouts.{IsValid, IsLaidOut}
 use Rattle.pix_desc.proofs.Valid.{laid_out}
-use Rattle.pix_desc.proofs.FrameReads.{IsReadBy, reads_from}
+use Rattle.pix_desc.proofs.FrameReads.{reads_from}
 use Rattle.pix_desc.proofs.FrameLaws.{only_frame, frame_says}
 use Rattle.pix_desc.proofs.FramePlaces.{frame_component_below}
 use Rattle.sws_run.specs.Meaning.{is_packed_rgb, wanted, target_frame, IsTargetFrameLaw}

@@ -1,5 +1,5 @@
 -- Packed RGB formats: a pixel is a few bytes of plane 0, and each component is one of them.
-use Rattle.std.proofs.Common.{◌≡◌, ◌≢◌, ℕ, zero, suc, ◌+◌, ◌-◌, ◌*◌, ◌/◌, ◌%◌, ◌^◌, ◌<◌, ◌≤◌, Bool, true, false, not, ◌&&◌, if◌then◌else◌, nat_le, nat_eq, nat_lt, pos, ◌+ℤ◌, List, [], ◌∷◌, All, length, drop, slice_index, slice_index_or, refl, sym, ◌∙◌, ap, subst, arith, eqb-true}
+use Rattle.std.proofs.Common.{◌≡◌, ◌≢◌, ℕ, ◌+◌, ◌-◌, ◌*◌, ◌/◌, ◌%◌, ◌^◌, ◌<◌, true, false, not, ◌&&◌, if◌then◌else◌, nat_le, nat_eq, pos, ◌+ℤ◌, List, [], ◌∷◌, drop, slice_index, refl, sym, ◌∙◌, ap, subst, arith, eqb-true}
 use Rattle.std.specs.List.{list_all}
 use Rattle.std.proofs.lemmas.Bool.{and_parts, not-true, ne_eqb}
 use Rattle.std.proofs.lemmas.List.{get_or-drop}
@@ -7,8 +7,8 @@ use Rattle.std.proofs.lemmas.Nat.{mod-mul-add}
 use Rattle.pix_desc.proofs.FramePlaces.{bit_place_is}
 use Rattle.pix_desc.specs.declared.desc.Comp.{Comp}
 use Rattle.pix_desc.specs.declared.desc.Desc.{Desc}
-use Rattle.pix_desc.specs.Component.{components, component_of, no_component, is_narrow, bytes_read, first_byte, count_of, start_of, number_at, component, bit_place}
-use Rattle.pix_desc.specs.Frame.{step_in, plane_step, row_length, plane_start, frame_length, row_start, frame_component}
+use Rattle.pix_desc.specs.Component.{components, component_of, no_component, is_narrow, bytes_read, first_byte, start_of, number_at, bit_place}
+use Rattle.pix_desc.specs.Frame.{step_in, plane_step, plane_start, frame_length, row_start, frame_component}
 use Rattle.pix_desc.specs.Layouts.{IsLaidOut}
 use Rattle.pix_desc.proofs.Components.{list_all-true, get_or-components, length-components}
 use Rattle.sws_run.specs.Meaning.{is_whole_byte, is_packed_rgb}

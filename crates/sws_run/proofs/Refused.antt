@@ -1,13 +1,12 @@
 -- A run that the words refuse, and one that has written nothing.
-use Rattle.std.proofs.Common.{◌≡◌, ℕ, ◌≤◌, List, IfSome, Result, Ok, Err, arith, refl, subst, sym}
+use Rattle.std.proofs.Common.{◌≡◌, ℕ, ◌≤◌, List, IfSome, Result, Ok, Err, arith, refl, subst}
 use Rattle.std.specs.declared.option.Option.{Option}
 use Rattle.std.specs.declared.option.Option.TheVariants.{None, Some}
 use Rattle.std.specs.Io.KnownBytes.{Appends}
 use Rattle.std.proofs.KnownBytes.{Appends-nil}
-use Rattle.pix_io.specs.Faults.{Rose}
 use Rattle.sws_run.specs.declared.words.Task.{Task}
 use Rattle.sws_run.specs.declared.ended.Ended.{Ended}
-use Rattle.sws_run.specs.declared.ended.Ended.TheVariants.{Done, Usage, Format, PaletteTarget, Stream, ReadFault, WriteFault, OutOfMemory, TooManyFrames}
+use Rattle.sws_run.specs.declared.ended.Ended.TheVariants.{Done, ReadFault, WriteFault, OutOfMemory}
 use Rattle.sws_run.specs.Ending.{IsRefusal, IfDone, IfReadFault, IfWriteFault, IfOutOfMemory}
 use Rattle.sws_run.specs.Stream.{target_frames, output_after, output_of, ending_of, frames_of}
 use Rattle.sws_run.specs.Run.{GivesAnswer, GivesReadFault, GivesWriteFault, GivesOutOfMemory}

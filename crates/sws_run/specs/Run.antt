@@ -1,6 +1,6 @@
 -- What a run promises, whatever it was asked for: six facts. `left` and `left'` are the bytes that the source holds before and after
 -- the run, `written` and `written'` those that the sink has taken, each where it tells them; `faults` and `faults'` are a count of faults.
-use Rattle.std.specs.Prelude.{◌≡◌, ◌<◌, ◌≤◌, ℕ, List, length, take, Result, Ok, Err, IfSome}
+use Rattle.std.specs.Prelude.{◌≡◌, ◌≤◌, ℕ, List, Result, Ok, Err, IfSome}
 use Rattle.std.specs.declared.option.Option.{Option}
 use Rattle.std.specs.Io.KnownBytes.{Appends, IsAtEnd}
 use Rattle.pix_io.specs.Faults.{Rose}

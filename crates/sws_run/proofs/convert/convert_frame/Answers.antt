@@ -1,4 +1,4 @@
-use Rattle.std.proofs.Common.{◌≡◌, ◌*◌, length, replicate, ap, subst, ◌∙◌, arith, rules}
+use Rattle.std.proofs.Common.{◌≡◌, ◌*◌, length, replicate, ap, subst, ◌∙◌, arith}
 use Rattle.pix_desc.proofs.Valid.{laid_out}
 use Rattle.sws_run.specs.Pixels.{pixel_bytes}
 use Rattle.sws_run.proofs.Packed.{packed_parts, packed_length}

@@ -1,5 +1,5 @@
 -- The first pixels are set.
-use Rattle.std.proofs.Common.{◌≡◌, ◌+◌, ◌*◌, slice_index}
+use Rattle.std.proofs.Common.{◌+◌, ◌*◌, slice_index}
 use Rattle.sws_run.specs.Pixels.{SetsEach}
 use Rattle.sws_run.proofs.convert.copy_bytes.Given as goal
 

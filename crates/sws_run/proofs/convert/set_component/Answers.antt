@@ -1,6 +1,5 @@
-use Rattle.std.proofs.Common.{◌≡◌, ◌+◌, ◌*◌, ◌<◌, ◌≤◌, length, slice_index, ap, sym, subst, ◌∙◌, arith, rules}
+use Rattle.std.proofs.Common.{arith}
 use Rattle.pix_desc.proofs.Valid.{laid_out}
-use Rattle.sws_run.specs.Pixels.{pixel_bytes, byte_place, byte_value, SetsEach}
 use Rattle.sws_run.proofs.Packed.{packed_parts, offset_is, place_inside}
 use Rattle.sws_run.proofs.Filled.{copied_sets, opaque_sets}
 use Rattle.sws_run.proofs.convert.set_component.Goals as goal

@@ -1,4 +1,4 @@
-use Rattle.std.proofs.Common.{rules, arith, ◌≡◌, ◌*◌, ◌<◌, length, take, subst, ◌∙◌, ap}
+use Rattle.std.proofs.Common.{rules, arith, ◌≡◌, ◌*◌, ◌<◌, length, take, subst, ap}
 use Rattle.std.proofs.lemmas.List.{length-take-le}
 use Rattle.pix_desc.specs.Frame.{frame_length}
 use Rattle.sws_run.specs.Stream.{source_length}

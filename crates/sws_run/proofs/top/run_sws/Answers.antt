@@ -1,7 +1,6 @@
-use Rattle.std.proofs.Common.{length, subst, ap, ◌∙◌, sym, rules}
+use Rattle.std.proofs.Common.{length, ap, ◌∙◌}
 use Rattle.pix_desc.specs.Frame.{frame_length}
 use Rattle.sws_run.specs.Stream.{source_length}
-use Rattle.sws_run.specs.Run.{GivesAnswer, GivesReadFault, GivesWriteFault, GivesOutOfMemory}
 use Rattle.sws_run.proofs.Refused.{refused_answer, refused_read_fault, refused_write_fault, refused_memory, early_memory}
 use Rattle.sws_run.proofs.top.run_sws.Goals as goal
 
