@@ -1,7 +1,7 @@
 -- The codes of a pixel: each fits its depth, and the results go by the codes that are read.
-use Rattle.std.proofs.Common.{◌≡◌, ℕ, ◌+◌, ◌*◌, ◌^◌, ◌<◌, true, false, nat_eq, if◌then◌else◌, List, All, inl, inr, zero-add, refl, sym, ap, ◌∙◌, arith}
+use Rattle.std.proofs.Common.{◌≡◌, ℕ, ◌+◌, ◌*◌, ◌^◌, ◌<◌, true, false, if◌then◌else◌, List, inl, inr, zero-add, refl, sym, ap, ◌∙◌, arith}
 use Rattle.std.proofs.lemmas.Bool.{cases_Bool}
-use Rattle.frac_math.specs.Fraction.{ℚ, nat, ◌+ℚ◌, floor}
+use Rattle.frac_math.specs.Fraction.{nat, ◌+ℚ◌, floor}
 use Rattle.frac_math.specs.Dither.{dither_at}
 use Rattle.pix_desc.specs.declared.desc.Desc.{Desc}
 use Rattle.pix_desc.specs.Component.{component_of}
