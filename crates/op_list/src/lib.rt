@@ -1,0 +1,13 @@
+//! Lists of operations that convert a pixel: how they may follow one another, their exact meaning, and their evaluation in fractions of 128 bits.
+#![tactic(auto)]
+
+mod op;
+mod place;
+mod types;
+mod typing;
+mod values;
+
+pub use op::Op;
+pub use place::Place;
+pub use types::{PixType, Stage};
+pub use values::Values;
