@@ -9,8 +9,10 @@ use Rattle.std.proofs.lemmas.Bool.Decides.{Decides-int_eq}
 use borrow.Author.Differences.{up, down, product_is, same_in, same_out}
 use mathlib.Core.HLevel.{is_prop→PathP}
 use native.Mathlib.Nat.{div-mul_cancel, eq_of_mul-eq-mul_right, zero-lt-suc}
-use Rattle.frac_math.specs.Gcd.{gcd, gcd-is, is_lowest, lowest_positive, lowest_one, same_pair}
-use Rattle.frac_math.specs.Fraction.{ℚ, whole, over, ◌+ℚ◌, ◌*ℚ◌, neg_ℚ, reciprocal, inverse, equal_ℚ}
+use Rattle.frac_math.specs.Gcd.{gcd, is_lowest}
+use Rattle.frac_math.specs.LowestTerms.{gcd-is}
+use Rattle.frac_math.proofs.Euclid.{lowest_positive, lowest_one, same_pair}
+use Rattle.frac_math.specs.Fraction.{ℚ, whole, over, ◌+ℚ◌, ◌*ℚ◌, neg_ℚ, ratio, inverse, equal_ℚ}
 use Rattle.frac_math.proofs.Ring.{Ring, var, num, ◌⊕◌, ◌⊗◌, minus, ring, ring_from, done, by}
 use Rattle.frac_math.proofs.Integers.{ints_ring}
 
@@ -189,18 +191,19 @@ fractions = record {
 }
 
 -- ---- division
-reciprocal_mul : (n : ℤ) (d : ℕ) (x : ℚ) → Stands x n d → (n ≡ pos 0 → ⊥) → x *ℚ reciprocal n d ≡ whole (pos 1)
-reciprocal_mul (pos zero) d x s h = absurd (h refl)
-reciprocal_mul (pos (suc n)) d x s h =
+mul-ratio : (n : ℤ) (d : ℕ) (x : ℚ) → Stands x n d → (n ≡ pos 0 → ⊥) → x *ℚ ratio (pos d) n ≡ whole (pos 1)
+unfolding ratio
+mul-ratio (pos zero) d x s h = absurd (h refl)
+mul-ratio (pos (suc n)) d x s h =
     same _ _ _ _ _ _ (mul_stands _ _ _ _ _ _ s (over_stands (pos d) (suc n) (zero-lt-suc n))) (itself (whole (pos 1)))
     (ring ints_ring (pos (suc n) ∷ pos d ∷ []) (var 0 ⊗ var 1 ⊗ num (pos 1)) (num (pos 1) ⊗ (var 1 ⊗ var 0)) refl)
-reciprocal_mul (negsuc n) d x s h =
+mul-ratio (negsuc n) d x s h =
     same _ _ _ _ _ _ (mul_stands _ _ _ _ _ _ s (over_stands (neg_ℤ (pos d)) (suc n) (zero-lt-suc n))) (itself (whole (pos 1)))
     (ring ints_ring (pos (suc n) ∷ pos d ∷ []) (minus (var 0) ⊗ minus (var 1) ⊗ num (pos 1)) (num (pos 1) ⊗ (var 1 ⊗ var 0)) refl)
 
 pub mul-inverse : (x : ℚ) → (x.numerator ≡ pos 0 → ⊥) → x *ℚ inverse x ≡ whole (pos 1)
 unfolding inverse
-mul-inverse x h = reciprocal_mul x.numerator x.denominator x (itself x) h
+mul-inverse x h = mul-ratio x.numerator x.denominator x (itself x) h
 
 -- a fraction that stands for a number above 0 has an inverse
 pub inverse_stands : (x : ℚ) (n d : ℕ) → Stands x (pos n) d → 0 < n → x *ℚ inverse x ≡ whole (pos 1)

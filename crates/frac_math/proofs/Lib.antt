@@ -1,6 +1,11 @@
 pub mod Ring
 pub mod Integers
+pub mod Euclid
 pub mod FractionRing
 pub mod FractionOrder
 pub mod Floor
-pub mod Lowest
+pub mod Casts
+pub mod Reduction
+pub mod CheckedCalls
+pub mod OrderByProducts
+pub mod Quotient

@@ -1,61 +1,59 @@
--- When the exact calls on two `i128` have an answer.
-use Rattle.std.specs.Prelude.{◌≡◌, ◌≢◌, suc, true, false, neg_ℤ, ◌-ℤ◌, ℕ, ◌^◌, Bool, ◌&&◌, ltb, if◌then◌else◌, Option, Some, None, ℤ, pos, negsuc, ◌+ℤ◌, ◌*ℤ◌, ◌<ℤ◌, FitsSigned, unsigned_abs}
-use Rattle.std.specs.declared.cmp.Ordering.{Ordering}
-use Rattle.std.specs.Ordering.{int_cmp}
-use Rattle.std.specs.Int.{w128}
-use lib.Signed.{lt_z, le_z}
-use Rattle.frac_math.specs.Gcd.{gcd}
-use Rattle.frac_math.specs.Fraction.{ℚ, over, ◌+ℚ◌}
+-- The exact calls on numbers of 128 bits: which numbers have to fit, and what each call answers.
+use Rattle.std.specs.Prelude.{◌≢◌, ◌*◌, ◌^◌, Bool, not, ◌&&◌, nat_lt, if◌then◌else◌, Option, Some, None, ℤ, pos, negsuc, ◌+ℤ◌, ◌*ℤ◌, FitsSigned}
+use Rattle.std.specs.Ordering.{int_eq}
+use Rattle.std.specs.Int.{w128, int_signum}
+use Rattle.frac_math.specs.Fraction.{ℚ, ratio, ◌+ℚ◌, ◌*ℚ◌, ◌/ℚ◌}
 
+-- z lies from -2^127 to 2^127 - 1
 abbrev pub Fits : ℤ → Type 0
 Fits z = FitsSigned w128 z
 
--- lowest terms, with a positive denominator
-pub record IsReduced (num den : ℤ) : Type 0 where
-  pub positive : pos 0 <ℤ den
-  pub lowest : gcd (unsigned_abs num) (unsigned_abs den) ≡ 1
+-- the same as a test
+abbrev pub is_i128 : ℤ → Bool
+is_i128 (pos n) = nat_lt n (2 ^ 127)
+is_i128 (negsuc n) = nat_lt n (2 ^ 127)
 
+-- n/d in lowest terms
+pub record RatioFits (n d : ℤ) : Type 0 where
+  pub divisor : d ≢ pos 0
+  pub numerator : Fits (ratio n d).numerator
+  pub denominator : Fits (pos (ratio n d).denominator)
+
+unfoldable pub checked_ratio : ℤ → ℤ → Option ℚ
+checked_ratio n d =
+    if not (int_eq d (pos 0)) && is_i128 (ratio n d).numerator && is_i128 (pos (ratio n d).denominator) then Some (ratio n d) else None
+
+-- a/b + c/d: the numbers a d, c b, a d + c b and b d
 pub record SumFits (x y : ℚ) : Type 0 where
   pub left : Fits (x.numerator *ℤ pos y.denominator)
   pub right : Fits (y.numerator *ℤ pos x.denominator)
   pub sum : Fits (x.numerator *ℤ pos y.denominator +ℤ y.numerator *ℤ pos x.denominator)
   pub denominator : Fits (pos x.denominator *ℤ pos y.denominator)
 
-pub record ProductFits (x y : ℚ) : Type 0 where
-  pub numerator : Fits (x.numerator *ℤ y.numerator)
-  pub denominator : Fits (pos x.denominator *ℤ pos y.denominator)
-
--- the same as tests, so that what the checked calls answer can be computed
-abbrev pub fits : ℤ → Bool
-fits (pos n) = ltb n (2 ^ 127)
-fits (negsuc n) = ltb n (2 ^ 127)
-
 unfoldable pub checked_sum : ℚ → ℚ → Option ℚ
 checked_sum x y =
     let left = x.numerator *ℤ pos y.denominator in
     let right = y.numerator *ℤ pos x.denominator in
-    if fits left && fits right && fits (left +ℤ right) && fits (pos x.denominator *ℤ pos y.denominator) then Some (x +ℚ y) else None
+    if is_i128 left && is_i128 right && is_i128 (left +ℤ right) && is_i128 (pos x.denominator *ℤ pos y.denominator) then Some (x +ℚ y) else None
 
--- the exact order of two fractions
-unfoldable pub order : ℚ → ℚ → Ordering
-order x y = int_cmp (x.numerator *ℤ pos y.denominator) (y.numerator *ℤ pos x.denominator)
+-- a/b * c/d: the numbers a c and b d
+pub record ProductFits (x y : ℚ) : Type 0 where
+  pub numerator : Fits (x.numerator *ℤ y.numerator)
+  pub denominator : Fits (pos x.denominator *ℤ pos y.denominator)
 
--- num/den, where the sign of den counts for num
-unfoldable pub ratio : ℤ → ℤ → ℚ
-ratio num (pos den) = over num den
-ratio num (negsuc den) = over (neg_ℤ num) (suc den)
+unfoldable pub checked_product : ℚ → ℚ → Option ℚ
+checked_product x y =
+    if is_i128 (x.numerator *ℤ y.numerator) && is_i128 (pos x.denominator *ℤ pos y.denominator) then Some (x *ℚ y) else None
 
-pub record RatioFits (num den : ℤ) : Type 0 where
-  pub divisor : den ≢ pos 0
-  pub numerator : Fits (ratio num den).numerator
-  pub denominator : Fits (pos (ratio num den).denominator)
+-- a/b divided by c/d: the numbers a d s and b c s, where s is the sign of c
+pub record QuotientFits (x y : ℚ) : Type 0 where
+  pub divisor : y.numerator ≢ pos 0
+  pub numerator : Fits (x.numerator *ℤ pos y.denominator *ℤ int_signum y.numerator)
+  pub denominator : Fits (pos x.denominator *ℤ y.numerator *ℤ int_signum y.numerator)
 
--- a size with a sign
-abbrev pub signed_as : Bool → ℕ → ℤ
-signed_as true n = pos 0 -ℤ pos n
-signed_as false n = pos 0 +ℤ pos n
-
--- num/den is below 0, or is 0 and den is
-abbrev pub is_under : ℤ → ℤ → Bool
-is_under num (pos den) = lt_z num (pos 0)
-is_under num (negsuc den) = le_z (pos 0) num
+unfoldable pub checked_quotient : ℚ → ℚ → Option ℚ
+checked_quotient x y =
+    let sign = int_signum y.numerator in
+    let numerator = x.numerator *ℤ pos y.denominator *ℤ sign in
+    let denominator = pos x.denominator *ℤ y.numerator *ℤ sign in
+    if not (int_eq y.numerator (pos 0)) && is_i128 numerator && is_i128 denominator then Some (x /ℚ y) else None

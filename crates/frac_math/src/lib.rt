@@ -1,4 +1,4 @@
-// Exact fractions, whose value is a number and whose equality is that of the values.
+//! Exact fractions of 128 bits, the ordered dither, and the answer that every allocating call shares.
 #![tactic(auto)]
 
 mod divisor;

@@ -1,9 +1,9 @@
-use Rattle.std.proofs.Common.{◌≡◌, ℕ, ◌<◌, ◌^◌, ℤ, pos, arith, ◌∙◌, unsigned_abs, to_z, of_z}
+use Rattle.std.proofs.Common.{◌≡◌, ℕ, ◌<◌, ◌^◌, ℤ, pos, negsuc, ◌<ℤ◌, ap, arith, ◌∙◌, unsigned_abs, to_z, of_z}
 use Rattle.std.specs.Int.{w128}
 use Rattle.std.specs.Int.RustNames.{FitsSigned, int_div}
 use Rattle.std.proofs.lemmas.Int.{ints, to_z-of_z, to_z_pos, quot_is, quot_fits}
 use Rattle.frac_math.specs.Gcd.{gcd}
-use Rattle.frac_math.proofs.Lowest.{divided_pair, divided_same, gcd_fits}
+use Rattle.frac_math.proofs.Reduction.{whole_reduced, divided_pair, divided_same, gcd_fits}
 use Rattle.frac_math.proofs.frac.reduced.Goals as goal
 
 is_gcd : (c : goal.After-common_divisor-divisor) → c.common_divisor-divisor.result ≡ gcd (unsigned_abs c.args.num) (unsigned_abs c.args.den)
@@ -33,10 +33,21 @@ nonzero_div-result-2 c =
 part_is : (g : ℕ) (a : ℤ) → (0 < g) × (g < 2 ^ 127) → FitsSigned w128 a → to_z w128 (of_z w128 (int_div (to_z w128 (of_z w128 a)) (to_z w128 g))) ≡ int_div a (pos g)
 part_is g a s f = quot_is w128 a (pos g) f (omega (arith, ints, s.1)) (quot_fits w128 a (pos g) f (omega (arith, ints, s.0)))
 
-pub invariant_of-result : goal.invariant_of-result
-invariant_of-result c =
+pub invariant_of-result-2 : goal.invariant_of-result-2
+invariant_of-result-2 c =
     let g = c.common_divisor-divisor.result in
     rw (part_is g c.args.num (small c) c.ranges.num, part_is g c.args.den (small c) c.ranges.den) (divided_pair c.args.num c.args.den g c.requires (is_gcd c))
+
+-- a denominator whose bits are 1
+one_is : (d : ℤ) → pos 0 <ℤ d → of_z w128 d ≡ 1 → d ≡ pos 1
+one_is (pos m) h e = ap pos e
+one_is (negsuc m) h e = absurd h.lt
+
+pub invariant_of-result : goal.invariant_of-result
+invariant_of-result c = rw (to_z-of_z w128 c.args.num c.ranges.num, to_z-of_z w128 c.args.den c.ranges.den, one_is c.args.den c.requires c.if-den-eq1.true) (whole_reduced c.args.num)
+
+pub returns-then-den-eq1 : goal.returns-then-den-eq1
+returns-then-den-eq1 c = rw (to_z-of_z w128 c.args.num c.ranges.num, to_z-of_z w128 c.args.den c.ranges.den)
 
 pub returns : goal.returns
 returns c =

@@ -1,6 +1,7 @@
 use Rattle.std.proofs.Common.{pos, ◌≤ℤ◌, ◌<ℤ◌, subst, sym, ◌∙◌, arith, rules}
 use Rattle.std.proofs.lemmas.Int.{ints}
-use Rattle.frac_math.proofs.Lowest.{abs_known, order_positive, order_negative, order_less, order_greater}
+use Rattle.frac_math.proofs.Casts.{abs_known}
+use Rattle.frac_math.proofs.OrderByProducts.{order_positive, order_negative, order_less, order_greater}
 use Rattle.frac_math.proofs.frac.Frac.cmp.Goals as goal
 
 pub returns-then-right-ge0 : goal.returns-then-right-ge0

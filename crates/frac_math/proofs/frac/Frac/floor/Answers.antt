@@ -4,7 +4,7 @@ use Rattle.std.specs.Int.RustNames.{FitsSigned}
 use Rattle.std.proofs.lemmas.Int.{to_z-of_z}
 use Rattle.frac_math.specs.Fraction.{floor}
 use Rattle.frac_math.proofs.FractionRing.{denominator_positive}
-use Rattle.frac_math.proofs.Lowest.{divisor_fits}
+use Rattle.frac_math.proofs.Casts.{divisor_fits}
 use Rattle.frac_math.proofs.frac.Frac.floor.Goals as goal
 
 pub div_euclid-requires : goal.div_euclid-requires

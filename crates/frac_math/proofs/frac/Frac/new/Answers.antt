@@ -3,8 +3,9 @@ use Rattle.std.specs.Int.{w128, cast_signed, cast_unsigned}
 use Rattle.std.specs.Int.RustNames.{FitsSigned}
 use Rattle.std.proofs.lemmas.Int.{ints, to_z-of_z}
 use Rattle.frac_math.specs.Gcd.{gcd}
-use Rattle.frac_math.specs.Checked.{ratio, signed_as, is_under}
-use Rattle.frac_math.proofs.Lowest.{ratio_num, ratio_den, own_reduced, own_over, divisor_positive, abs_known}
+use Rattle.frac_math.specs.Fraction.{ratio}
+use Rattle.frac_math.proofs.Reduction.{ratio_num, ratio_den, own_reduced, own_over, divisor_positive}
+use Rattle.frac_math.proofs.Casts.{abs_known}
 use Rattle.frac_math.proofs.frac.Frac.new.Goals as goal
 
 -- the divisor, from the sizes that it was made of
@@ -13,7 +14,7 @@ gcd_known : (g u w : ℕ) (n d : ℤ) → FitsSigned w128 n → FitsSigned w128 
 gcd_known g u w n d f h p q e = e ∙ rw (abs_known u n n f refl p, abs_known w d d h refl q)
 
 -- a signed quotient
-size_known : (b c : Bool) (u g m : ℕ) (n : ℤ) → FitsSigned w128 n → b ≡ c → u ≡ unsigned_abs (cast_signed w128 (cast_unsigned w128 n)) → g ≡ m → signed_as b (u / g) ≡ signed_as c (unsigned_abs n / m)
+size_known : (b c : Bool) (u g m : ℕ) (n : ℤ) → FitsSigned w128 n → b ≡ c → u ≡ unsigned_abs (cast_signed w128 (cast_unsigned w128 n)) → g ≡ m → with_sign b (u / g) ≡ with_sign c (unsigned_abs n / m)
 size_known b c u g m n f p q e = rw (p, abs_known u n n f refl q, e)
 
 pub nonzero_div-unsigned_abs : goal.nonzero_div-unsigned_abs

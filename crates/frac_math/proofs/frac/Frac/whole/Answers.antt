@@ -1,6 +1,6 @@
 use Rattle.std.specs.Int.{w128}
 use Rattle.std.proofs.lemmas.Int.{to_z-of_z}
-use Rattle.frac_math.proofs.Lowest.{whole_reduced, over_one}
+use Rattle.frac_math.proofs.Reduction.{whole_reduced, over_one}
 use Rattle.frac_math.proofs.frac.Frac.whole.Goals as goal
 
 pub invariant_of-result : goal.invariant_of-result
