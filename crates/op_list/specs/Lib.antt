@@ -1,2 +1,9 @@
+pub mod Apply
+pub mod Checked
+pub mod Dither
+pub mod Pixel
+pub mod Run
 pub mod Types
 pub mod Typing
+pub mod Values
+pub mod Whole

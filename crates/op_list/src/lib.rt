@@ -1,8 +1,11 @@
 //! Lists of operations that convert a pixel: how they may follow one another, their exact meaning, and their evaluation in fractions of 128 bits.
 #![tactic(auto)]
 
+mod fractions;
+mod numbers;
 mod op;
 mod place;
+mod read;
 mod types;
 mod typing;
 mod values;

@@ -1,9 +1,10 @@
-ghost use Rattle.std.specs.Prelude.{◌≡◌, ◌≤◌, nat_eq, sum};
+ghost use Rattle.std.specs.Prelude.{◌≡◌, ◌≤◌, nat_eq};
 ghost use Rattle.std.specs.List.{list_all};
 ghost use Rattle.op_list.specs.Typing.{may_follow, stage_after, are_good, are_in_front, are_counts, fits_bits, all_fit};
 
 use frac_math::Frac;
 
+use crate::numbers::total;
 use crate::op::Op;
 use crate::types::{PixType, Stage};
 
@@ -68,13 +69,6 @@ fn are_counts(counts: &[u8; 4], most: u32) -> bool
 {
     let sum = total(counts);
     are_in_front(counts) && 1 <= sum && sum <= most
-}
-
-fn total(counts: &[u8; 4]) -> u32
-    ensures { result ≡ sum counts.now }
-{
-    let [first, second, third, fourth] = *counts;
-    u32::from(first) + u32::from(second) + u32::from(third) + u32::from(fourth)
 }
 
 // No 0 stands before a number above 0.
