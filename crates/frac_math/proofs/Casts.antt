@@ -21,4 +21,3 @@ abs_known r z x f p e = e ∙ ap unsigned_abs (to_z-of_z w128 z f ∙ p)
 -- ---- division by a denominator
 pub divisor_fits : (n : ℤ) (d : ℕ) → 0 < d → FitsSigned w128 (pos d) → IsNonZero w128 (pos d) × NotMinOverMinusOne w128 n (pos d)
 divisor_fits n d h f = (h, λ e z. absurd (omega (arith, ints, f)))
-

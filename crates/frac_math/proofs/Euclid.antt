@@ -69,4 +69,3 @@ lowest_positive n d t = ltb-true 0 d (first_test (ltb 0 d) (eqb (gcd (nat_abs n)
 
 pub lowest_one : (n : ℤ) (d : ℕ) → T (is_lowest n d) → gcd (nat_abs n) d ≡ 1
 lowest_one n d t = eqb-true (gcd (nat_abs n) d) 1 (second_test (ltb 0 d) (eqb (gcd (nat_abs n) d) 1) t)
-

@@ -1,9 +1,11 @@
 -- The order of fractions, and the lesser and the greater of two.
-use Rattle.std.proofs.Common.{◌≡◌, ℕ, ◌+◌, ◌*◌, ◌<◌, ◌≤◌, true, false, ℤ, pos, negsuc, ◌*ℤ◌, ◌≤ℤ◌, List, [], ◌∷◌, if◌then◌else◌, ◌⊎◌, inl, inr, refl, sym, ap, subst, arith}
+use Rattle.std.proofs.Common.{◌≡◌, ℕ, ◌+◌, ◌*◌, ◌<◌, ◌≤◌, true, false, ℤ, pos, negsuc, ◌*ℤ◌, ◌≤ℤ◌, ◌<ℤ◌, List, [], ◌∷◌, if◌then◌else◌, Ordering, Less, Equal, Greater, ◌⊎◌, inl, inr, refl, sym, ap, subst, arith}
 use Rattle.std.proofs.lemmas.Int.{ints, by_lt_z}
 use borrow.Author.Differences.{up, down, product_is, at_most_in, le_out}
 use native.Mathlib.Nat.{mul-le-mul_right, le_of_mul-le-mul_right}
-use Rattle.frac_math.specs.Fraction.{ℚ, whole, ◌+ℚ◌, ◌*ℚ◌, ◌-ℚ◌, ◌≤ℚ◌, ◌<ℚ◌, is_at_most, min_ℚ, max_ℚ}
+use Rattle.std.specs.Ordering.{MatchOrdering}
+use Rattle.std.specs.Cmp.{int_ranks}
+use Rattle.frac_math.specs.Fraction.{ℚ, order, whole, ◌+ℚ◌, ◌*ℚ◌, ◌-ℚ◌, ◌≤ℚ◌, ◌<ℚ◌, is_at_most, min_ℚ, max_ℚ}
 use Rattle.frac_math.proofs.Ring.{Expr, var, num, ◌⊕◌, ◌⊖◌, ◌⊗◌, minus, ring, ring_from, normal, value, done, by}
 use Rattle.frac_math.proofs.Integers.{ints_ring}
 use Rattle.frac_math.proofs.FractionRing.{Stands, denominator_positive, itself, add_stands, mul_stands, neg_stands, fractions, product_positive, cross_same}
@@ -56,6 +58,24 @@ le_of_lt_ℚ x y p = record { at_most = omega (arith, ints, p.below) }
 
 pub lt_of_not_le_ℚ : (x y : ℚ) → (y ≤ℚ x → ⊥) → x <ℚ y
 lt_of_not_le_ℚ x y h = elim (le_or_lt_ℚ y x) [ inl p ↦ absurd (h p) | inr p ↦ p ]
+
+pub lt_by_cross : (x y : ℚ) (n m : ℤ) (d e : ℕ) → Stands x n d → Stands y m e → (n *ℤ pos e) <ℤ (m *ℤ pos d) → x <ℚ y
+lt_by_cross x y n m d e s t h = lt_of_not_le_ℚ x y (λ l. absurd (omega (arith, ints, h, cross_by_le y x m n e d t s l)))
+
+pub cross_by_lt : (x y : ℚ) (n m : ℤ) (d e : ℕ) → Stands x n d → Stands y m e → x <ℚ y → (n *ℤ pos e) <ℤ (m *ℤ pos d)
+cross_by_lt x y n m d e s t h = by_lt_z (n *ℤ pos e) (m *ℤ pos d) (λ l. l) (λ l. absurd (lt_not_le_ℚ x y h (le_by_cross y x m n e d t s l)))
+
+-- the order as a test
+order_from : (x y : ℚ) (r : Ordering)
+    → MatchOrdering r ((x.numerator *ℤ pos y.denominator) <ℤ (y.numerator *ℤ pos x.denominator)) (x.numerator *ℤ pos y.denominator ≡ y.numerator *ℤ pos x.denominator) ((y.numerator *ℤ pos x.denominator) <ℤ (x.numerator *ℤ pos y.denominator))
+    → MatchOrdering r (x <ℚ y) (x ≡ y) (y <ℚ x)
+order_from x y Less h = record { below = h }
+order_from x y Equal h = cross_same x y h
+order_from x y Greater h = record { below = h }
+
+pub order_is : (x y : ℚ) → MatchOrdering (order x y) (x <ℚ y) (x ≡ y) (y <ℚ x)
+unfolding order
+order_is x y = order_from x y _ (int_ranks (x.numerator *ℤ pos y.denominator) (y.numerator *ℤ pos x.denominator))
 
 -- the difference of two is at least 0
 pub difference : (x y : ℚ) → x ≤ℚ y → whole (pos 0) ≤ℚ (y -ℚ x)

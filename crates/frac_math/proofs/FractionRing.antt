@@ -1,5 +1,5 @@
 -- The fractions are a commutative ring with inverses.
-use Rattle.std.proofs.Common.{◌≡◌, ℕ, zero, suc, ◌+◌, ◌*◌, ◌/◌, ◌<◌, Bool, true, false, ◌&&◌, eqb, eqb-true, T, ℤ, pos, negsuc, ◌+ℤ◌, ◌*ℤ◌, neg_ℤ, [], ◌∷◌, refl, sym, ◌∙◌, ap, arith}
+use Rattle.std.proofs.Common.{subst, ◌≡◌, ℕ, zero, suc, ◌+◌, ◌*◌, ◌/◌, ◌<◌, Bool, true, false, ◌&&◌, eqb, eqb-true, T, ℤ, pos, negsuc, ◌+ℤ◌, ◌*ℤ◌, neg_ℤ, [], ◌∷◌, refl, sym, ◌∙◌, ap, arith}
 use Rattle.std.proofs.lemmas.Int.{ints, unsigned_abs-mul}
 use Rattle.std.specs.Int.RustNames.{int_div}
 use lib.IntN.{nat_abs}
@@ -13,6 +13,7 @@ use Rattle.frac_math.specs.Gcd.{gcd, is_lowest}
 use Rattle.frac_math.specs.LowestTerms.{gcd-is}
 use Rattle.frac_math.proofs.Euclid.{lowest_positive, lowest_one, same_pair}
 use Rattle.frac_math.specs.Fraction.{ℚ, whole, over, ◌+ℚ◌, ◌*ℚ◌, neg_ℚ, ratio, inverse, equal_ℚ}
+use Rattle.frac_math.specs.Equality.{equal_equivalence}
 use Rattle.frac_math.proofs.Ring.{Ring, var, num, ◌⊕◌, ◌⊗◌, minus, ring, ring_from, done, by}
 use Rattle.frac_math.proofs.Integers.{ints_ring}
 
@@ -85,6 +86,10 @@ change x n m d e s p h = record {
       (by (var 5) (var 0 ⊗ var 4) (var 1 ⊗ var 3) (by (var 3) (var 1 ⊗ var 5) (var 2 ⊗ var 4) done))
       (s.cross, (h, tt)) refl);
 }
+
+-- over one denominator, only one numerator
+pub same_numerator : (x : ℚ) (n m : ℤ) (d : ℕ) → Stands x n d → Stands x m d → n ≡ m
+same_numerator x n m d s t = cancel_ℤ n m x.denominator (denominator_positive x) (sym s.cross ∙ t.cross)
 
 -- ---- what each operation does to n/d and m/e
 pub add_stands : (x y : ℚ) (n m : ℤ) (d e : ℕ) → Stands x n d → Stands y m e → Stands (x +ℚ y) (n *ℤ pos e +ℤ m *ℤ pos d) (d * e)
@@ -222,6 +227,10 @@ pub common_mul : (x : ℚ) (n z : ℤ) (d : ℕ) → Stands x n d → Stands (x 
 common_mul x n z d s =
     change _ _ _ _ _ (mul_stands _ _ _ _ _ _ s (itself (whole z))) s.positive (ring ints_ring (n ∷ z ∷ pos d ∷ []) (var 0 ⊗ var 1 ⊗ var 2) (var 0 ⊗ var 1 ⊗ (var 2 ⊗ num (pos 1))) refl)
 
+-- ---- the test of equality
 pub equal_is : (x y : ℚ) → equal_ℚ x y ≡ true → x ≡ y
 unfolding equal_ℚ
 equal_is x y h = same_fields x y ((Decides-int_eq x.numerator y.numerator).0 (and_left (int_eq x.numerator y.numerator) (eqb x.denominator y.denominator) h)) (eqb-true x.denominator y.denominator (and_right (int_eq x.numerator y.numerator) (eqb x.denominator y.denominator) h))
+
+pub is_equal : (x y : ℚ) → x ≡ y → equal_ℚ x y ≡ true
+is_equal x y e = subst (λ (z : ℚ). equal_ℚ x z ≡ true) e (equal_equivalence.refl x)

@@ -9,3 +9,4 @@ pub mod Reduction
 pub mod CheckedCalls
 pub mod OrderByProducts
 pub mod Quotient
+pub mod DitherLaws

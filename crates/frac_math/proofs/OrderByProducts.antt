@@ -42,4 +42,3 @@ order_less x y p q = let t = less_is x.numerator y.numerator x.denominator y.den
 pub order_greater : (x y : ℚ) → pos 0 ≤ℤ x.numerator → y.numerator <ℤ pos 0 → order x y ≡ Greater
 unfolding order
 order_greater x y p q = let t = less_is y.numerator x.numerator y.denominator x.denominator (denominator_positive y) (denominator_positive x) q p in grind (arith, ints)
-

@@ -12,6 +12,7 @@ use Rattle.frac_math.specs.Reduced.{IsReduced}
 use Rattle.frac_math.specs.Signed.{with_sign}
 use Rattle.frac_math.specs.LowestTerms.{gcd-is, gcd_pos, gcd-one, quotients_lowest}
 use Rattle.frac_math.proofs.Euclid.{gcd-below, lowest_positive, lowest_one}
+use Rattle.frac_math.proofs.Casts.{abs_known}
 use Rattle.frac_math.proofs.FractionRing.{itself, same, over_stands, part_mul, denominator_positive}
 
 -- num/g and den/g, as `reduced` makes them
@@ -123,3 +124,10 @@ divisor_positive n (pos zero) h = absurd (h refl)
 divisor_positive n (pos (suc d)) h = gcd_pos (unsigned_abs n) (suc d) (omega arith)
 divisor_positive n (negsuc d) h = gcd_pos (unsigned_abs n) (suc d) (omega arith)
 
+-- ---- what the code has of it
+pub gcd_known : (g u w : ℕ) (n d : ℤ) → FitsSigned w128 n → FitsSigned w128 d → u ≡ unsigned_abs (cast_signed w128 (cast_unsigned w128 n)) → w ≡ unsigned_abs (cast_signed w128 (cast_unsigned w128 d)) → g ≡ gcd u w
+    → g ≡ gcd (unsigned_abs n) (unsigned_abs d)
+gcd_known g u w n d f h p q e = e ∙ rw (abs_known u n n f refl p, abs_known w d d h refl q)
+
+pub size_known : (b c : Bool) (u g m : ℕ) (n : ℤ) → FitsSigned w128 n → b ≡ c → u ≡ unsigned_abs (cast_signed w128 (cast_unsigned w128 n)) → g ≡ m → with_sign b (u / g) ≡ with_sign c (unsigned_abs n / m)
+size_known b c u g m n f p q e = rw (p, abs_known u n n f refl q, e)

@@ -34,7 +34,6 @@ ratio n (negsuc d) = over (neg_ℤ n) (suc d)
 infixl 60 ◌+ℚ◌ ◌-ℚ◌
 infixl 70 ◌*ℚ◌ ◌/ℚ◌
 infix 50 ◌≤ℚ◌ ◌<ℚ◌
-
 -- a/b + c/d = (a d + c b)/(b d)
 unfoldable pub ◌+ℚ◌ : ℚ → ℚ → ℚ
 x +ℚ y = over (x.numerator *ℤ pos y.denominator +ℤ y.numerator *ℤ pos x.denominator) (x.denominator * y.denominator)

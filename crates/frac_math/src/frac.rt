@@ -6,11 +6,10 @@ ghost use Rattle.frac_math.specs.Checked.{SumFits, ProductFits, QuotientFits, Ra
 ghost use Rattle.frac_math.specs.Reduced.{IsReduced, over-numerator, over-denominator};
 ghost use Rattle.frac_math.specs.Signed.{with_sign};
 
-use std::cmp::Ordering;
-use std::marker::Model;
-
 use crate::divisor::common_divisor;
 use crate::product::compare_products;
+use std::cmp::Ordering;
+use std::marker::Model;
 
 /// An exact fraction in lowest terms, whose denominator is at least 1.
 /// The numerator and the denominator are numbers of 128 bits, and no call rounds.
@@ -44,7 +43,7 @@ fn signed(size: u128, negative: bool) -> Option<i128>
 }
 
 // num/den in lowest terms.
-fn reduced(num: i128, den: i128) -> Frac
+pub fn reduced(num: i128, den: i128) -> Frac
     requires { pos 0 <ℤ den }
     ensures { result ≡ over num (unsigned_abs den) }
 {
@@ -149,14 +148,43 @@ impl Frac {
         let right = other.num();
         if left >= 0 {
             if right >= 0 {
-                compare_products(left.unsigned_abs(), other.den().unsigned_abs(), right.unsigned_abs(), self.den().unsigned_abs())
+                compare_products(
+                    left.unsigned_abs(),
+                    other.den().unsigned_abs(),
+                    right.unsigned_abs(),
+                    self.den().unsigned_abs(),
+                )
             } else {
                 Ordering::Greater
             }
         } else if right >= 0 {
             Ordering::Less
         } else {
-            compare_products(right.unsigned_abs(), self.den().unsigned_abs(), left.unsigned_abs(), other.den().unsigned_abs())
+            compare_products(
+                right.unsigned_abs(),
+                self.den().unsigned_abs(),
+                left.unsigned_abs(),
+                other.den().unsigned_abs(),
+            )
         }
     }
+}
+
+impl PartialEq for Frac {
+    ghost use Rattle.frac_math.specs.Fraction.{equal_ℚ};
+    ghost use Rattle.frac_math.specs.Equality.{equal_partial_equivalence};
+
+    ghost eq = { equal_ℚ };
+
+    ghost laws = { equal_partial_equivalence };
+
+    fn eq(&self, other: &Frac) -> bool {
+        self.num() == other.num() && self.den() == other.den()
+    }
+}
+
+impl Eq for Frac {
+    ghost use Rattle.frac_math.specs.Equality.{equal_equivalence};
+
+    ghost laws = { equal_equivalence };
 }

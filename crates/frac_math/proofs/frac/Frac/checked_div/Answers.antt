@@ -74,7 +74,7 @@ returns-clause-exact c =
     let fits_d : FitsSigned w128 c.in_ok-den.den = search rules in (
       record { divisor = nz; numerator = subst Fits n fits_n; denominator = subst Fits d fits_d },
       reduced_known c.reduced.result c.in_ok-num.num c.in_ok-den.den (x.numerator *ℤ pos y.denominator *ℤ int_signum y.numerator) k.0 fits_n fits_d n (d ∙ k.2) c.reduced.ensures
-      ∙ sym (quotient_is x y (x.numerator *ℤ pos y.denominator *ℤ int_signum y.numerator) k.0 nz k.1 refl (sym k.2)),
+          ∙ sym (quotient_is x y (x.numerator *ℤ pos y.denominator *ℤ int_signum y.numerator) k.0 nz k.1 refl (sym k.2)),
     )
 
 pub returns-clause-value : goal.returns-clause-value
