@@ -13,7 +13,7 @@ use Rattle.op_list.specs.Types.{bits, bits_at}
 use Rattle.op_list.specs.Values.{four, number, fraction, fraction_in, entry}
 use Rattle.op_list.specs.Whole.{reversed_bytes, field, placed, modulo}
 use Rattle.op_list.specs.Pixel.{read_values}
-use Rattle.op_list.specs.Dither.{dither_at}
+use Rattle.frac_math.specs.Dither.{dither_at}
 
 -- the first elements, and 0 for the others
 abbrev pub written : List ℕ → Values → ℕ → ℕ

@@ -2,8 +2,7 @@
 use Rattle.std.specs.Prelude.{ℕ, List, Option, Some, None}
 use Rattle.std.specs.Option.{option_map, option_and_then}
 use Rattle.frac_math.specs.Fraction.{ℚ}
-use Rattle.frac_math.specs.Checked.{checked_sum}
-use Rattle.op_list.specs.Dither.{checked_product}
+use Rattle.frac_math.specs.Checked.{checked_sum, checked_product}
 use Rattle.op_list.specs.declared.types.Stage.{Stage}
 use Rattle.op_list.specs.declared.place.Place.{Place}
 use Rattle.op_list.specs.declared.op.Op.{Op}
@@ -12,7 +11,7 @@ use Rattle.op_list.specs.declared.values.Values.{Values}
 use Rattle.op_list.specs.declared.values.Values.TheVariants.{Fractions}
 use Rattle.op_list.specs.Values.{all_four, fraction, fraction_in}
 use Rattle.op_list.specs.Apply.{apply, row_of}
-use Rattle.op_list.specs.Dither.{dither_at}
+use Rattle.frac_math.specs.Dither.{dither_at}
 
 -- a sum and the next product of a row
 abbrev pub checked_term : List ℚ → Values → ℕ → ℚ → Option ℚ

@@ -1,6 +1,5 @@
 pub mod Apply
 pub mod Checked
-pub mod Dither
 pub mod Pixel
 pub mod Run
 pub mod Types

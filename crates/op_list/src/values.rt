@@ -1,7 +1,7 @@
 use frac_math::Frac;
 
 /// The four values of a pixel.
-#[derive(Clone, Copy)]
+#[derive(Clone, Copy, Debug)]
 pub enum Values {
     /// Of a whole type.
     Numbers([u32; 4]),
