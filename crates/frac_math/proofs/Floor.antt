@@ -1,5 +1,5 @@
 -- The greatest whole number that is not above a fraction.
-use Rattle.std.proofs.Common.{◌≡◌, ℕ, ◌+◌, ◌*◌, ◌/◌, ◌<◌, ◌≤◌, ℤ, pos, negsuc, ◌+ℤ◌, ◌*ℤ◌, ◌≤ℤ◌, ◌<ℤ◌, [], ◌∷◌, refl, sym, subst, arith}
+use Rattle.std.proofs.Common.{◌≡◌, ℕ, ◌+◌, ◌*◌, ◌/◌, ◌<◌, ◌≤◌, ℤ, pos, negsuc, ◌+ℤ◌, ◌*ℤ◌, ◌≤ℤ◌, ◌<ℤ◌, [], ◌∷◌, refl, sym, ◌∙◌, ap, subst, arith}
 use Rattle.std.proofs.lemmas.Int.{ints, clamps, by_lt_z}
 use Rattle.std.specs.Int.{int_div_euclid, int_min, int_max}
 use borrow.Author.Differences.{product_is, at_most_in, le_out}
@@ -9,7 +9,7 @@ use Rattle.frac_math.specs.Fraction.{ℚ, whole, ◌+ℚ◌, ◌≤ℚ◌, ◌<�
 use Rattle.frac_math.proofs.Ring.{var, num, ◌⊕◌}
 use Rattle.frac_math.proofs.Integers.{mul-one_ℤ}
 use Rattle.frac_math.proofs.FractionRing.{Stands, denominator_positive, itself, whole-add}
-use Rattle.frac_math.proofs.FractionOrder.{also, end, le_by_cross, cross_by_le, le_refl_ℚ, lt_not_le_ℚ, lt_of_not_le_ℚ, le_from, lt_from, le_trans_ℚ, min_cases, max_cases}
+use Rattle.frac_math.proofs.FractionOrder.{also, end, le_by_cross, cross_by_le, le_refl_ℚ, lt_not_le_ℚ, lt_of_not_le_ℚ, le_from, lt_from, le_trans_ℚ, add_le_ℚ, add_lt_ℚ, min_cases, max_cases}
 
 -- ---- floor
 le_floor_ℤ : (z n : ℤ) (d : ℕ) → 0 < d → (z *ℤ pos d) ≤ℤ n → z ≤ℤ int_div_euclid n (pos d)
@@ -64,6 +64,12 @@ floor_stands x n d s =
 
 pub floor_whole : (z : ℤ) → floor (whole z) ≡ z
 floor_whole z = floor_is (whole z) z (le_refl_ℚ (whole z)) (record { below = omega (arith, ints, mul-one_ℤ z, mul-one_ℤ (z +ℤ pos 1)) })
+
+pub floor-add-whole : (x : ℚ) (z : ℤ) → floor (x +ℚ whole z) ≡ floor x +ℤ z
+floor-add-whole x z =
+    floor_is (x +ℚ whole z) (floor x +ℤ z)
+    (subst (λ (w : ℚ). w ≤ℚ (x +ℚ whole z)) (sym (whole-add (floor x) z)) (add_le_ℚ (whole (floor x)) x (whole z) (floor_below x)))
+    (subst (λ (w : ℚ). (x +ℚ whole z) <ℚ w) (sym (whole-add (floor x +ℤ pos 1) z) ∙ ap whole (omega (arith, ints))) (add_lt_ℚ x (whole (floor x +ℤ pos 1)) (whole z) (floor_above x)))
 
 -- a dither between 0 and 1 leaves a whole number
 pub floor_dither : (z : ℤ) (m : ℚ) → whole (pos 0) ≤ℚ m → m <ℚ whole (pos 1) → floor (whole z +ℚ m) ≡ z

@@ -1,14 +1,14 @@
 -- The order of fractions, and the lesser and the greater of two.
-use Rattle.std.proofs.Common.{◌≡◌, ℕ, ◌+◌, ◌*◌, ◌<◌, ◌≤◌, true, false, ℤ, pos, negsuc, ◌*ℤ◌, ◌≤ℤ◌, ◌<ℤ◌, List, [], ◌∷◌, if◌then◌else◌, Ordering, Less, Equal, Greater, ◌⊎◌, inl, inr, refl, sym, ap, subst, arith}
+use Rattle.std.proofs.Common.{◌≡◌, ℕ, zero, suc, ◌+◌, ◌*◌, ◌<◌, ◌≤◌, true, false, ℤ, pos, negsuc, ◌*ℤ◌, ◌≤ℤ◌, ◌<ℤ◌, List, [], ◌∷◌, if◌then◌else◌, Ordering, Less, Equal, Greater, ◌⊎◌, inl, inr, refl, sym, ap, subst, arith}
 use Rattle.std.proofs.lemmas.Int.{ints, by_lt_z}
 use borrow.Author.Differences.{up, down, product_is, at_most_in, le_out}
 use native.Mathlib.Nat.{mul-le-mul_right, le_of_mul-le-mul_right}
 use Rattle.std.specs.Ordering.{MatchOrdering}
 use Rattle.std.specs.Cmp.{int_ranks}
-use Rattle.frac_math.specs.Fraction.{ℚ, order, whole, ◌+ℚ◌, ◌*ℚ◌, ◌-ℚ◌, ◌≤ℚ◌, ◌<ℚ◌, is_at_most, min_ℚ, max_ℚ}
+use Rattle.frac_math.specs.Fraction.{ℚ, order, whole, ratio, neg_ℚ, inverse, ◌+ℚ◌, ◌*ℚ◌, ◌-ℚ◌, ◌≤ℚ◌, ◌<ℚ◌, is_at_most, min_ℚ, max_ℚ}
 use Rattle.frac_math.proofs.Ring.{Expr, var, num, ◌⊕◌, ◌⊖◌, ◌⊗◌, minus, ring, ring_from, normal, value, done, by}
 use Rattle.frac_math.proofs.Integers.{ints_ring}
-use Rattle.frac_math.proofs.FractionRing.{Stands, denominator_positive, itself, add_stands, mul_stands, neg_stands, fractions, product_positive, cross_same}
+use Rattle.frac_math.proofs.FractionRing.{Stands, denominator_positive, itself, over_stands, add_stands, mul_stands, neg_stands, fractions, product_positive, cross_same}
 
 -- ---- order
 pub mono_ℤ : (a b : ℤ) (c : ℕ) → a ≤ℤ b → (a *ℤ pos c) ≤ℤ (b *ℤ pos c)
@@ -156,11 +156,60 @@ add_le_ℚ x y z p = le_from (x ∷ y ∷ z ∷ []) (var 0 ⊕ var 2) (var 1 ⊕
 pub mul_le_ℚ : (x y z : ℚ) → whole (pos 0) ≤ℚ z → x ≤ℚ y → (x *ℚ z) ≤ℚ (y *ℚ z)
 mul_le_ℚ x y z q p = le_from (x ∷ y ∷ z ∷ []) (var 0 ⊗ var 2) (var 1 ⊗ var 2) (times (var 2) (var 0) (var 1) end) (q, p, tt) refl
 
+pub lt_of_lt_of_le_ℚ : (x y z : ℚ) → x <ℚ y → y ≤ℚ z → x <ℚ z
+lt_of_lt_of_le_ℚ x y z p q = lt_from (x ∷ y ∷ z ∷ []) (var 0) (var 2) (var 0) (var 1) (also (var 1) (var 2) end) p (q, tt) refl
+
+pub lt_of_le_of_lt_ℚ : (x y z : ℚ) → x ≤ℚ y → y <ℚ z → x <ℚ z
+lt_of_le_of_lt_ℚ x y z p q = lt_from (x ∷ y ∷ z ∷ []) (var 0) (var 2) (var 1) (var 2) (also (var 0) (var 1) end) q (p, tt) refl
+
+pub add_lt_ℚ : (x y z : ℚ) → x <ℚ y → (x +ℚ z) <ℚ (y +ℚ z)
+add_lt_ℚ x y z p = lt_from (x ∷ y ∷ z ∷ []) (var 0 ⊕ var 2) (var 1 ⊕ var 2) (var 0) (var 1) end p tt refl
+
+pub neg_le_ℚ : (x y : ℚ) → x ≤ℚ y → neg_ℚ y ≤ℚ neg_ℚ x
+neg_le_ℚ x y p = le_from (x ∷ y ∷ []) (minus (var 1)) (minus (var 0)) (also (var 0) (var 1) end) (p, tt) refl
+
+-- ---- above 0
+above_zero : (x : ℚ) → whole (pos 0) <ℚ x → (n : ℕ) × (0 < n) × Stands x (pos n) x.denominator
+above_zero x h =
+    let t = natural x.numerator (omega (arith, ints, h.below)) in
+    (t.0, omega (arith, ints, h.below, t.1), record { positive = denominator_positive x; cross = ap (λ z. z *ℤ pos x.denominator) t.1 })
+
+pub not_zero : (x : ℚ) → whole (pos 0) <ℚ x → x.numerator ≡ pos 0 → ⊥
+not_zero x h e = absurd (omega (arith, ints, h.below, e))
+
+pub mul_above_zero : (x y : ℚ) → whole (pos 0) <ℚ x → whole (pos 0) <ℚ y → whole (pos 0) <ℚ (x *ℚ y)
+mul_above_zero x y p q =
+    let s = above_zero x p in let t = above_zero y q in
+    let n : 0 < s.0 * t.0 = product_positive s.0 t.0 s.1 t.1 in
+    lt_by_cross _ _ _ _ _ _ (itself (whole (pos 0))) (mul_stands _ _ _ _ _ _ s.2 t.2) (omega (arith, ints))
+
+inverse_of : (n : ℤ) (d : ℕ) → 0 < d → pos 0 <ℤ n → whole (pos 0) <ℚ ratio (pos d) n
+unfolding ratio
+inverse_of (pos zero) d p h = absurd h.lt
+inverse_of (pos (suc n)) d p h = lt_by_cross _ _ _ _ _ _ (itself (whole (pos 0))) (over_stands (pos d) (suc n) (omega arith)) (omega (arith, ints))
+inverse_of (negsuc n) d p h = absurd h.lt
+
+pub inverse_above_zero : (x : ℚ) → whole (pos 0) <ℚ x → whole (pos 0) <ℚ inverse x
+unfolding inverse
+inverse_above_zero x h = inverse_of x.numerator x.denominator (denominator_positive x) (omega (arith, ints, h.below))
+
+pub mul_lt_ℚ : (x y z : ℚ) → whole (pos 0) <ℚ z → x <ℚ y → (x *ℚ z) <ℚ (y *ℚ z)
+mul_lt_ℚ x y z q p =
+    let above : whole (pos 0) <ℚ (y -ℚ x) = lt_from (x ∷ y ∷ []) (num (pos 0)) (var 1 ⊖ var 0) (var 0) (var 1) end p tt refl in
+    subst (λ (w : ℚ). (x *ℚ z) <ℚ w) (ring fractions (x ∷ y ∷ z ∷ []) (var 0 ⊗ var 2 ⊕ (var 1 ⊖ var 0) ⊗ var 2) (var 1 ⊗ var 2) refl)
+    (lt_from (x *ℚ z ∷ (y -ℚ x) *ℚ z ∷ []) (var 0) (var 0 ⊕ var 1) (num (pos 0)) (var 1) end (mul_above_zero (y -ℚ x) z above q) tt refl)
+
 pub whole_le : (a b : ℤ) → a ≤ℤ b → whole a ≤ℚ whole b
 whole_le a b h = record { at_most = mono_ℤ a b 1 h }
 
 pub le_whole : (a b : ℤ) → whole a ≤ℚ whole b → a ≤ℤ b
 le_whole a b h = cancel_le_ℤ a b 1 (omega arith) h.at_most
+
+pub whole_lt : (a b : ℤ) → a <ℤ b → whole a <ℚ whole b
+whole_lt a b h = lt_of_not_le_ℚ (whole a) (whole b) (λ l. absurd (omega (arith, ints, h, le_whole b a l)))
+
+pub lt_whole : (a b : ℤ) → whole a <ℚ whole b → a <ℤ b
+lt_whole a b h = by_lt_z a b (λ l. l) (λ l. absurd (lt_not_le_ℚ (whole a) (whole b) h (whole_le b a l)))
 
 -- ---- the lesser and the greater
 pub most_true : (x y : ℚ) → is_at_most x y ≡ true → x ≤ℚ y

@@ -8,11 +8,12 @@ use Rattle.std.specs.Ordering.{int_eq}
 use Rattle.std.proofs.lemmas.Bool.Decides.{Decides-int_eq}
 use borrow.Author.Differences.{up, down, product_is, same_in, same_out}
 use mathlib.Core.HLevel.{is_prop→PathP}
-use native.Mathlib.Nat.{div-mul_cancel, eq_of_mul-eq-mul_right, zero-lt-suc}
+use Prim.Native.Nat.{◌∣◌}
+use native.Mathlib.Nat.{dvd-mul_left, div-mul_cancel, eq_of_mul-eq-mul_right, zero-lt-suc}
 use Rattle.frac_math.specs.Gcd.{gcd, is_lowest}
 use Rattle.frac_math.specs.LowestTerms.{gcd-is}
-use Rattle.frac_math.proofs.Euclid.{lowest_positive, lowest_one, same_pair}
-use Rattle.frac_math.specs.Fraction.{ℚ, whole, over, ◌+ℚ◌, ◌*ℚ◌, neg_ℚ, ratio, inverse, equal_ℚ}
+use Rattle.frac_math.proofs.Euclid.{lowest_positive, lowest_one, same_pair, divides_other}
+use Rattle.frac_math.specs.Fraction.{ℚ, whole, over, ◌+ℚ◌, ◌*ℚ◌, neg_ℚ, ratio, inverse, ◌/ℚ◌, equal_ℚ}
 use Rattle.frac_math.specs.Equality.{equal_equivalence}
 use Rattle.frac_math.proofs.Ring.{Ring, var, num, ◌⊕◌, ◌⊗◌, minus, ring, ring_from, done, by}
 use Rattle.frac_math.proofs.Integers.{ints_ring}
@@ -217,6 +218,21 @@ inverse_stands x n d s h =
     (let e : pos 0 *ℤ pos d ≡ pos n *ℤ pos x.denominator = ap (λ m. m *ℤ pos d) (sym z) ∙ s.cross in
     let p : 0 < n * x.denominator = product_positive n x.denominator h (denominator_positive x) in
     absurd (omega (arith, ints))))
+
+-- the denominator in lowest terms divides each other denominator of the same value
+pub denominator_divides : (x : ℚ) (n : ℤ) (d : ℕ) → Stands x n d → x.denominator ∣ d
+denominator_divides x n d s =
+    let sizes : nat_abs x.numerator * d ≡ nat_abs n * x.denominator = sym (unsigned_abs-mul x.numerator (pos d)) ∙ ap nat_abs s.cross ∙ unsigned_abs-mul n (pos x.denominator) in
+    divides_other (nat_abs x.numerator) x.denominator d s.positive (lowest_one x.numerator x.denominator x.lowest) (subst (λ (m : ℕ). x.denominator ∣ m) (sym sizes) (dvd-mul_left x.denominator (nat_abs n)))
+
+-- a quotient by what is not 0
+pub mul-div : (x y : ℚ) → (y.numerator ≡ pos 0 → ⊥) → (x *ℚ y) /ℚ y ≡ x
+mul-div x y h =
+    ring_from fractions (x ∷ y ∷ inverse y ∷ []) (var 0 ⊗ var 1 ⊗ var 2) (var 0) (by (var 0) (var 1 ⊗ var 2) (num (pos 1)) done) (mul-inverse y h, tt) refl
+
+pub div-mul : (x y : ℚ) → (y.numerator ≡ pos 0 → ⊥) → (x /ℚ y) *ℚ y ≡ x
+div-mul x y h =
+    ring_from fractions (x ∷ y ∷ inverse y ∷ []) (var 0 ⊗ var 2 ⊗ var 1) (var 0) (by (var 0) (var 1 ⊗ var 2) (num (pos 1)) done) (mul-inverse y h, tt) refl
 
 -- ---- over one denominator
 pub common_add : (x y : ℚ) (n m : ℤ) (d : ℕ) → Stands x n d → Stands y m d → Stands (x +ℚ y) (n +ℤ m) d

@@ -2,7 +2,7 @@ ghost use Rattle.std.specs.Prelude.{◌≡◌};
 ghost use Rattle.frac_math.specs.Gcd.{gcd};
 
 // The greatest common divisor, in divisions of 64 bits from where the lesser number has no more.
-pub fn common_divisor(a: u128, b: u128) -> u128
+pub(crate) fn common_divisor(a: u128, b: u128) -> u128
     ensures { result ≡ gcd a b }
 {
     let mut x = a;

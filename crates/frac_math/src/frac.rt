@@ -43,7 +43,7 @@ fn signed(size: u128, negative: bool) -> Option<i128>
 }
 
 // num/den in lowest terms.
-pub fn reduced(num: i128, den: i128) -> Frac
+pub(crate) fn reduced(num: i128, den: i128) -> Frac
     requires { pos 0 <ℤ den }
     ensures { result ≡ over num (unsigned_abs den) }
 {

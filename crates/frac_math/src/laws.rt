@@ -9,8 +9,7 @@ pub fn checked_exactly()
 /// The test of equality and the order are those of the values.
 pub fn compared_exactly()
     ensures { IsComparedExactly }
-{
-}
+{}
 
 /// The dither lies strictly between 0 and 1.
 pub fn dither_is_inside()

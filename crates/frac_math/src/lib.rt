@@ -7,6 +7,8 @@ mod frac;
 mod laws;
 mod memory;
 mod product;
+#[cfg(test)]
+mod tests;
 
 pub use dither::dither_at;
 pub use frac::Frac;

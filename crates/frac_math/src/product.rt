@@ -4,7 +4,7 @@ ghost use Rattle.std.specs.Ordering.{nat_cmp};
 use std::cmp::Ordering;
 
 // The order of two products, each of up to 256 bits.
-pub fn compare_products(a: u128, b: u128, c: u128, d: u128) -> Ordering
+pub(crate) fn compare_products(a: u128, b: u128, c: u128, d: u128) -> Ordering
     ensures { result ≡ nat_cmp (a * b) (c * d) }
 {
     let (low, high) = a.carrying_mul(b, 0);
