@@ -42,12 +42,16 @@ abbrev pub swizzled : List ℕ → Values → Values
 swizzled from (Numbers values) = Numbers (four (λ i. slice_index values (slice_index from i)))
 swizzled from (Fractions values) = Fractions (four (λ i. fraction_in values (slice_index from i)))
 
--- whole to fraction and fraction to fraction: the same; to whole: the floor of a fraction, and modulo 2^bits
+-- as whole numbers modulo 2^bits: a whole number, times 257 to expand it, and the floor of a fraction
+abbrev pub as_numbers : Bool → ℕ → Values → Values
+as_numbers expand count (Numbers values) = Numbers (four (λ i. slice_index values i * (if expand then 257 else 1) % 2 ^ count))
+as_numbers expand count (Fractions values) = Numbers (four (λ i. modulo (floor (fraction_in values i)) (2 ^ count)))
+
+-- the values in another type: as fractions they are the same
 abbrev pub converted : PixType → Bool → Values → Values
 converted Rat expand (Numbers values) = Fractions (four (λ i. nat (slice_index values i)))
 converted Rat expand (Fractions values) = Fractions values
-converted to expand (Numbers values) = Numbers (four (λ i. slice_index values i * (if expand then 257 else 1) % 2 ^ bits to))
-converted to expand (Fractions values) = Numbers (four (λ i. modulo (floor (fraction_in values i)) (2 ^ bits to)))
+converted to expand values = as_numbers expand (bits to) values
 
 -- row[0] v0 + row[1] v1 + row[2] v2 + row[3] v3 + row[4]
 abbrev pub product : List ℚ → Values → ℕ → ℚ

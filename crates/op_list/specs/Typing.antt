@@ -1,5 +1,5 @@
 -- Which operations may follow one another, and with which arguments.
-use Rattle.std.specs.Prelude.{ℕ, zero, suc, ◌^◌, Bool, true, false, not, ◌&&◌, ◌||◌, IsTrue, nat_eq, nat_lt, nat_le, List, [], ◌∷◌, sum, length, Option, Some, None, ℤ, pos, negsuc, ◌≤◌}
+use Rattle.std.specs.Prelude.{◌≡◌, ℕ, zero, suc, ◌^◌, Bool, true, false, not, ◌&&◌, ◌||◌, nat_eq, nat_lt, nat_le, List, [], ◌∷◌, sum, length, Option, Some, None, ℤ, pos, negsuc, ◌≤◌}
 use Rattle.std.specs.List.{list_all}
 use Rattle.std.specs.Str.{bytes_eq}
 use Rattle.frac_math.specs.Fraction.{ℚ}
@@ -29,6 +29,10 @@ may_follow stage (Scale by) = is_rational stage
 may_follow stage (Min limits) = is_rational stage
 may_follow stage (Max limits) = is_rational stage
 
+abbrev pub is_write : Op → Bool
+is_write (Write elem planes) = true
+is_write _ = false
+
 -- what the operation leaves
 unfoldable pub stage_after : Stage → Op → Stage
 stage_after stage (Read elem planes palette) = Typed elem
@@ -55,10 +59,13 @@ abbrev pub fits_bits : ℕ → ℚ → Bool
 fits_bits count x = nat_eq x.denominator 1 && is_below (2 ^ count) x.numerator
 
 -- the entries that are given fit
+abbrev pub entry_fits : ℕ → Option ℚ → Bool
+entry_fits count None = true
+entry_fits count (Some x) = fits_bits count x
+
 abbrev pub all_fit : ℕ → List (Option ℚ) → Bool
 all_fit count [] = true
-all_fit count (None ∷ values) = all_fit count values
-all_fit count (Some x ∷ values) = fits_bits count x && all_fit count values
+all_fit count (value ∷ values) = entry_fits count value && all_fit count values
 
 -- whether the arguments are good, at the type that the values have before
 unfoldable pub are_good : Stage → Op → Bool
@@ -85,13 +92,22 @@ unfoldable pub are_typed : Stage → List Op → Bool
 are_typed stage [] = true
 are_typed stage (op ∷ ops) = may_follow stage op && are_good stage op && are_typed (stage_after stage op) ops
 
+-- what a whole list leaves
+abbrev pub stage_of : List Op → Stage
+stage_of ops = stage_from Start ops
+
 -- a list of operations is well typed, and has at most 24 of them
 pub record IsOpList (ops : List Op) : Type 0 where
-  pub typed : IsTrue (are_typed Start ops)
+  pub typed : are_typed Start ops ≡ true
   pub size : length ops ≤ 24
+
+-- what a list keeps beside its operations
+pub record LeavesStage (ops : List Op) (stage : Stage) : Type 0 where
+  pub sound : IsOpList ops
+  pub last : stage ≡ stage_of ops
 
 -- the list ends with a Write
 unfoldable pub ends_with_write : List Op → Bool
 ends_with_write [] = false
-ends_with_write (Write elem planes ∷ []) = true
-ends_with_write (op ∷ ops) = ends_with_write ops
+ends_with_write (op ∷ []) = is_write op
+ends_with_write (op ∷ next ∷ ops) = ends_with_write (next ∷ ops)

@@ -1,5 +1,5 @@
 -- The four values of a pixel.
-use Rattle.std.specs.Prelude.{ℕ, List, [], ◌∷◌, Option, Some, None, slice_index, slice_index_or}
+use Rattle.std.specs.Prelude.{ℕ, Bool, true, false, List, [], ◌∷◌, Option, Some, None, slice_index, slice_index_or}
 use Rattle.std.specs.Option.{option_map, option_and_then}
 use Rattle.frac_math.specs.Fraction.{ℚ, nat}
 use Rattle.op_list.specs.declared.values.Values.{Values}
@@ -32,6 +32,10 @@ fraction (Fractions values) i = fraction_in values i
 -- entry i, where it is given
 abbrev pub entry : List (Option ℚ) → ℕ → Option ℚ
 entry entries i = slice_index_or entries i None
+
+abbrev pub are_fractions : Values → Bool
+are_fractions (Numbers values) = false
+are_fractions (Fractions values) = true
 
 -- the values before a Read
 abbrev pub no_values : Values

@@ -1,3 +1,6 @@
+ghost use Rattle.std.specs.Prelude.{◌≡◌, true, false};
+ghost use Rattle.op_list.specs.Values.{are_fractions};
+
 use frac_math::Frac;
 
 /// The four values of a pixel.
@@ -7,4 +10,28 @@ pub enum Values {
     Numbers([u32; 4]),
     /// Of the type of fractions.
     Fractions([Frac; 4]),
+}
+
+impl Values {
+    // The numbers of a whole type.
+    pub fn numbers(&self) -> &[u32; 4]
+        requires { are_fractions self.now ≡ false }
+        ensures { self.now ≡ Values.Numbers result.now }
+    {
+        match self {
+            Values::Numbers(values) => values,
+            Values::Fractions(_) => unreachable!(),
+        }
+    }
+
+    // The fractions of the type of fractions.
+    pub fn fractions(&self) -> &[Frac; 4]
+        requires { are_fractions self.now ≡ true }
+        ensures { self.now ≡ Values.Fractions result.now }
+    {
+        match self {
+            Values::Numbers(_) => unreachable!(),
+            Values::Fractions(values) => values,
+        }
+    }
 }
