@@ -5,4 +5,5 @@ pub mod Exact
 pub mod Fields
 pub mod Four
 pub mod Ordered
+pub mod Pushed
 pub mod Steps

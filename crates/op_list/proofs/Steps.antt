@@ -1,9 +1,9 @@
 -- A list runs: each operation of it may be applied to what those before it leave.
-use Rattle.std.proofs.Common.{◌≡◌, ℕ, ◌+◌, ◌<◌, Bool, true, false, ◌&&◌, List, [], ◌∷◌, ◌++◌, length, refl, sym, ◌∙◌, ap, arith}
-use Rattle.std.specs.Prelude.{Option, Some, None}
+use Rattle.std.proofs.Common.{◌≡◌, ℕ, ◌+◌, ◌-◌, ◌<◌, Bool, true, false, ◌&&◌, List, [], ◌∷◌, ◌++◌, length, get_or, drop, suc, add-one, drop-cons, subst, refl, sym, ◌∙◌, ap, arith}
+use Rattle.std.specs.Prelude.{Option, Some, None, slice_get, IsTrue, ◌↔◌}
 use Rattle.std.specs.Option.{option_and_then}
 use Rattle.std.proofs.lemmas.Bool.{and_parts, and_from}
-use Rattle.std.proofs.lemmas.Option.{same_Some, option_and_then_some}
+use Rattle.std.proofs.lemmas.Option.{same_Some, none-some, option_and_then_some}
 use Rattle.frac_math.specs.Fraction.{ℚ}
 use Rattle.op_list.specs.declared.types.PixType.{PixType}
 use Rattle.op_list.specs.declared.types.PixType.TheVariants.{U8, U16, U32, Rat}
@@ -15,11 +15,11 @@ use Rattle.op_list.specs.declared.op.Op.TheVariants.{Read, Write, SwapBytes, Unp
 use Rattle.op_list.specs.declared.values.Values.{Values}
 use Rattle.op_list.specs.declared.values.Values.TheVariants.{Numbers, Fractions}
 use Rattle.op_list.specs.Types.{is_start, is_rational, is_whole, is_whole_type}
-use Rattle.op_list.specs.Typing.{may_follow, are_good, stage_after, stage_from, are_typed, are_counts, is_write, ends_with_write}
-use Rattle.op_list.specs.Values.{are_fractions}
+use Rattle.op_list.specs.Typing.{may_follow, are_good, stage_after, stage_from, are_typed, are_counts, is_write, ends_with_write, IsOpList}
+use Rattle.op_list.specs.Values.{are_fractions, no_values, four, number}
 use Rattle.op_list.specs.Apply.{apply, cleared, swizzled, converted}
 use Rattle.op_list.specs.Checked.{checked_apply}
-use Rattle.op_list.specs.Run.{MayApply, MayRun, checked_run_from, read_length}
+use Rattle.op_list.specs.Run.{MayApply, MayRun, checked_run_from, checked_run, read_length}
 use Rattle.op_list.proofs.Applied.{whole_not_rational, whole_before}
 use Rattle.op_list.proofs.Exact.{checked_apply-exact}
 
@@ -166,3 +166,60 @@ unfolding ends_with_write stage_from
 whole_ended stage [] h = cc
 whole_ended stage (op ∷ []) h = write_ends stage op h
 whole_ended stage (op ∷ next ∷ ops) h = whole_ended (stage_after stage op) (next ∷ ops) h
+
+-- ---- the loop over a list
+pub next_op : {A : Type 0} (ops : List A) (k : ℕ) (op : A) → k < length ops → op ≡ get_or ops k op → drop k ops ≡ op ∷ drop (k + 1) ops
+next_op ops k op within is = rw add-one (subst (λ o. drop k ops ≡ o ∷ drop (suc k) ops) (sym is) (drop-cons ops k op within))
+
+pub run-none : (frame : List ℕ) (place : Place) (stage : Stage) (op : Op) (ops : List Op) (values : Values)
+    → checked_apply frame place stage op values ≡ None → checked_run_from frame place stage (op ∷ ops) values ≡ None
+unfolding checked_run_from
+run-none frame place stage op ops values is = rw is refl
+
+pub run-some : (frame : List ℕ) (place : Place) (stage : Stage) (op : Op) (ops : List Op) (values next : Values)
+    → checked_apply frame place stage op values ≡ Some next → checked_run_from frame place stage (op ∷ ops) values ≡ checked_run_from frame place (stage_after stage op) ops next
+unfolding checked_run_from
+run-some frame place stage op ops values next is = rw is refl
+
+pub run_end : (frame : List ℕ) (place : Place) (stage : Stage) (values : Values) → checked_run_from frame place stage [] values ≡ Some values
+unfolding checked_run_from
+run_end frame place stage values = refl
+
+-- ---- a whole list
+pub whole_numbers : (ops : List Op) (frame : List ℕ) (place : Place) (last : Values) → IsOpList ops → ends_with_write ops ≡ true → place.x < place.width → place.row < place.rows
+    → length frame ≡ read_length ops place.width place.rows → checked_run_from frame place Start ops no_values ≡ Some last → are_fractions last ≡ false
+whole_numbers ops frame place last sound whole column row size is =
+    last_kind frame place Start ops no_values last (record { typed = sound.typed; kind = refl; column = column; row = row; size = λ s. size }) is ∙ ap is_rational (whole_ended Start ops whole)
+
+pub checked_run-some : (ops : List Op) (frame : List ℕ) (width rows x row y : ℕ) (last : Values)
+    → checked_run_from frame (record { width = width; rows = rows; x = x; row = row; y = y }) Start ops no_values ≡ Some last
+    → checked_run ops frame width rows x row y ≡ Some (four (λ i. number last i))
+unfolding checked_run
+checked_run-some ops frame width rows x row y last is = rw is refl
+
+pub checked_run-none : (ops : List Op) (frame : List ℕ) (width rows x row y : ℕ)
+    → checked_run_from frame (record { width = width; rows = rows; x = x; row = row; y = y }) Start ops no_values ≡ None → checked_run ops frame width rows x row y ≡ None
+unfolding checked_run
+checked_run-none ops frame width rows x row y is = rw is refl
+
+-- ---- the last operation
+last_of : (ops : List Op) (last : Op) → Some last ≡ slice_get ops (length ops - 1) → ends_with_write ops ≡ is_write last
+unfolding ends_with_write
+last_of [] last h = absurd (none-some last (sym h))
+last_of (op ∷ []) last h = ap is_write (sym (same_Some last op h))
+last_of (op ∷ next ∷ ops) last h =
+    let place : length (op ∷ next ∷ ops) - 1 ≡ suc (length (next ∷ ops) - 1) = omega arith in
+    last_of (next ∷ ops) last (rw place at h)
+
+pub whole_is : (ops : List Op) (last : Op) (b : Bool) → Some last ≡ slice_get ops (length ops - 1) → b ≡ is_write last → IsTrue b ↔ (ends_with_write ops ≡ true)
+whole_is ops last b h is =
+    let same = is ∙ sym (last_of ops last h) in
+    (λ yes. sym same ∙ yes, λ yes. same ∙ yes)
+
+pub whole_none : (ops : List Op) → None ≡ slice_get ops (length ops - 1) → IsTrue false ↔ (ends_with_write ops ≡ true)
+unfolding ends_with_write
+whole_none [] h = (λ no. no, λ no. no)
+whole_none (op ∷ []) h = absurd (none-some op h)
+whole_none (op ∷ next ∷ ops) h =
+    let place : length (op ∷ next ∷ ops) - 1 ≡ suc (length (next ∷ ops) - 1) = omega arith in
+    whole_none (next ∷ ops) (rw place at h)

@@ -3,6 +3,7 @@
 
 mod apply;
 mod convert;
+mod fault;
 mod fractions;
 mod list;
 mod numbers;
@@ -14,7 +15,8 @@ mod types;
 mod typing;
 mod values;
 
-pub use list::{MOST_OPERATIONS, OpList, PushFault};
+pub use fault::PushFault;
+pub use list::{MOST_OPERATIONS, OpList};
 pub use op::Op;
 pub use place::Place;
 pub use types::{PixType, Stage};

@@ -1,10 +1,13 @@
-ghost use Rattle.std.specs.Prelude.{◌≡◌, ◌<◌, ◌≤◌, ◌↔◌, true, false, IsTrue, OnOk, OnErr, [], ◌∷◌, ◌++◌, length};
+ghost use Rattle.std.specs.Prelude.{◌≡◌, ◌<◌, ◌≤◌, ◌↔◌, true, false, IsTrue, OnOk, OnErr, IfErr, [], ◌∷◌, ◌++◌, length};
 ghost use Rattle.op_list.specs.Typing.{may_follow, are_good, stage_of, IsOpList, ends_with_write};
 ghost use Rattle.op_list.specs.Run.{read_length, checked_run};
 
 use std::alloc::Global;
 use std::marker::Model;
 
+use frac_math::Frac;
+
+use crate::fault::PushFault;
 use crate::op::Op;
 use crate::place::Place;
 use crate::run::values_after;
@@ -12,19 +15,6 @@ use crate::types::Stage;
 
 /// The most operations of a list.
 pub const MOST_OPERATIONS: usize = 24;
-
-/// Why an operation was not taken. The list is then as it was.
-#[derive(Clone, Copy, Debug, PartialEq, Eq)]
-pub enum PushFault {
-    /// The values have a type that this kind of operation does not take; or it is a Read, and not the first; or it is the first, and no Read; or it comes after a Write.
-    WrongType,
-    /// The kind may follow, but not with these arguments.
-    BadArgument,
-    /// The list has 24 operations.
-    TooLong,
-    /// An allocation was refused.
-    OutOfMemory,
-}
 
 /// At most 24 operations that may follow one another, each with good arguments.
 #[derive(Drop)]
@@ -76,13 +66,10 @@ impl OpList {
         if self.ops.len() >= MOST_OPERATIONS {
             return Err(PushFault::TooLong);
         }
-        match self.ops.push(op) {
-            Ok(()) => {
-                self.stage = op.stage_after(self.stage);
-                Ok(())
-            }
-            Err(_) => Err(PushFault::OutOfMemory),
-        }
+        let stage = op.stage_after(self.stage);
+        append(&mut self.ops, op)?;
+        self.stage = stage;
+        Ok(())
     }
 
     /// The operations, the first one first.
@@ -97,9 +84,9 @@ impl OpList {
     pub fn whole(&self) -> bool
         ensures { IsTrue result ↔ (ends_with_write self.now ≡ true) }
     {
-        match self.ops() {
-            [.., Op::Write { .. }] => true,
-            _ => false,
+        match self.ops().last() {
+            Some(op) => op.is_write(),
+            None => false,
         }
     }
 
@@ -120,6 +107,19 @@ impl OpList {
             y,
         };
         let values = values_after(self.ops(), frame, &place)?;
-        Some(*values.numbers())
+        Some(values.elements())
+    }
+}
+
+fn append(ops: &mut Vec<Op>, op: Op) -> Result<(), PushFault>
+    ensures memory { IfErr result (λ fault. fault ≡ PushFault.OutOfMemory) }
+    ensures ok { OnOk result (ops.new.items ≡ ops.old.items ++ op ∷ []) }
+    ensures err { OnErr result (ops.new.items ≡ ops.old.items) }
+{
+    // The proof of this call has to find the type named that an operation holds.
+    let _entry: Option<Frac> = None;
+    match ops.push(op) {
+        Ok(()) => Ok(()),
+        Err(_) => Err(PushFault::OutOfMemory),
     }
 }

@@ -1,6 +1,6 @@
 ghost use Rattle.std.specs.Prelude.{◌≡◌, ◌≤◌, nat_eq};
 ghost use Rattle.std.specs.List.{list_all};
-ghost use Rattle.op_list.specs.Typing.{may_follow, stage_after, are_good, are_in_front, are_counts, fits_bits, all_fit};
+ghost use Rattle.op_list.specs.Typing.{may_follow, is_write, stage_after, are_good, are_in_front, are_counts, fits_bits, all_fit};
 
 use frac_math::Frac;
 
@@ -21,6 +21,16 @@ impl Op {
             Op::Unpack { .. } | Op::Pack { .. } | Op::LeftShift { .. } | Op::RightShift { .. } => stage.is_whole(),
             Op::Clear { .. } | Op::Swizzle { .. } | Op::Convert { .. } => stage.is_typed(),
             Op::Dither { .. } | Op::Linear { .. } | Op::Scale { .. } | Op::Min { .. } | Op::Max { .. } => stage.is_rational(),
+        }
+    }
+
+    /// Whether it is a Write.
+    pub fn is_write(&self) -> bool
+        ensures { result ≡ is_write self.now }
+    {
+        match self {
+            Op::Write { .. } => true,
+            _ => false,
         }
     }
 

@@ -1,5 +1,5 @@
 ghost use Rattle.std.specs.Prelude.{◌≡◌, true, false};
-ghost use Rattle.op_list.specs.Values.{are_fractions};
+ghost use Rattle.op_list.specs.Values.{four, number, are_fractions};
 
 use frac_math::Frac;
 
@@ -22,6 +22,15 @@ impl Values {
             Values::Numbers(values) => values,
             Values::Fractions(_) => unreachable!(),
         }
+    }
+
+    // The numbers, one after the other.
+    pub fn elements(&self) -> [u32; 4]
+        requires { are_fractions self.now ≡ false }
+        ensures { result ≡ four (λ i. number self.now i) }
+    {
+        let numbers = self.numbers();
+        [numbers[0], numbers[1], numbers[2], numbers[3]]
     }
 
     // The fractions of the type of fractions.
