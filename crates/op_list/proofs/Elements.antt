@@ -1,8 +1,9 @@
 -- Where the elements of a pixel lie in a frame.
-use Rattle.std.proofs.Common.{◌≡◌, ℕ, ◌+◌, ◌*◌, ◌<◌, ◌≤◌, Bool, true, false, not, ◌&&◌, ◌||◌, if◌then◌else◌, nat_le, nat_eq, List, [], ◌∷◌, length, refl, arith, subst}
-use Rattle.std.specs.Prelude.{sum}
+use Rattle.std.proofs.Common.{◌≡◌, ℕ, zero, suc, take, ◌+◌, ◌*◌, ◌<◌, ◌≤◌, Bool, true, false, not, ◌&&◌, ◌||◌, if◌then◌else◌, nat_le, nat_eq, List, [], ◌∷◌, ◌-◌, length, refl, sym, ◌∙◌, ap, arith}
+use Rattle.std.specs.Prelude.{sum, slice_index}
+use Rattle.std.proofs.lemmas.List.Sums.{sum_by-cons}
 use Rattle.std.specs.Str.{bytes_eq}
-use Rattle.std.proofs.lemmas.Bool.{and_parts, or_cases, leb-true}
+use Rattle.std.proofs.lemmas.Bool.{and_parts, leb-true, cond_below, cond_above}
 use Rattle.std.proofs.lemmas.Slice.Eq.{bytes_eq-Decides}
 use Rattle.std.proofs.lemmas.Nat.{mul-add-lt}
 use Rattle.std.proofs.Math.Nat.{mul-le-mul_left, mul-le-mul_right}
@@ -13,7 +14,7 @@ use Rattle.op_list.specs.declared.place.Place.{Place}
 use Rattle.op_list.specs.declared.op.Op.TheVariants.{Read}
 use Rattle.op_list.specs.Types.{bytes, is_whole_type, is_same}
 use Rattle.op_list.specs.Typing.{are_good, are_counts, are_in_front}
-use Rattle.op_list.specs.Pixel.{frame_length, pixel_count, IsPixelOf, HasElements, HasPalette}
+use Rattle.op_list.specs.Pixel.{element_in, frame_length, pixel_count, IsPixelOf, HasElements, HasPalette}
 
 pub bytes_positive : (elem : PixType) → is_whole_type elem ≡ true → 1 ≤ bytes elem
 bytes_positive U8 h = omega arith
@@ -64,3 +65,39 @@ has_palette elem planes frame place h =
     size_of U16 s planes e all pixels h = cc
     size_of U32 s planes e all pixels h = cc
     size_of Rat s planes e all pixels h = cc
+
+-- ---- the elements in the order of the planes
+sum-cons : (n : ℕ) (ns : List ℕ) → sum (n ∷ ns) ≡ n + sum ns
+sum-cons n ns = sum_by-cons (λ x. x) n ns
+
+in_first : (pixels pixel before n i : ℕ) (planes : List ℕ) → i < n → element_in pixels pixel before (n ∷ planes) i ≡ pixels * before + pixel * n + i
+in_first pixels pixel before n i planes h = sym (cond_below i n (pixels * before + pixel * n + i) (element_in pixels pixel (before + n) planes (i - n)) h)
+
+in_rest : (pixels pixel before n i : ℕ) (planes : List ℕ) → n ≤ i → element_in pixels pixel before (n ∷ planes) i ≡ element_in pixels pixel (before + n) planes (i - n)
+in_rest pixels pixel before n i planes h =
+    let rest = element_in pixels pixel (before + n) planes (i - n) in
+    sym (cond_above i n (pixels * before + pixel * n + i) rest rest h refl)
+
+pub element_in-plane : (pixels pixel before : ℕ) (planes : List ℕ) (p e : ℕ) → e < slice_index planes p
+    → element_in pixels pixel before planes (sum (take p planes) + e) ≡ pixels * (before + sum (take p planes)) + pixel * slice_index planes p + e
+element_in-plane pixels pixel before [] zero e h = absurd (omega (arith, h))
+element_in-plane pixels pixel before [] (suc p) e h = absurd (omega (arith, h))
+element_in-plane pixels pixel before (n ∷ planes) zero e h =
+    let start : 0 + e ≡ e = omega arith in
+    let same : pixels * before + pixel * n + e ≡ pixels * (before + 0) + pixel * n + e = omega arith in
+    ap (λ i. element_in pixels pixel before (n ∷ planes) i) start ∙ in_first pixels pixel before n e planes h ∙ same
+element_in-plane pixels pixel before (n ∷ planes) (suc p) e h =
+    let s = sum (take p planes) in
+    let all : sum (take (suc p) (n ∷ planes)) ≡ n + s = sum-cons n (take p planes) in
+    let rest : n + s + e - n ≡ s + e = omega arith in
+    let past : n ≤ n + s + e = omega arith in
+    let total : before + n + s ≡ before + sum (take (suc p) (n ∷ planes)) = omega (arith, all) in
+    ap (λ t. element_in pixels pixel before (n ∷ planes) (t + e)) all ∙ in_rest pixels pixel before n (n + s + e) planes past
+    ∙ ap (λ i. element_in pixels pixel (before + n) planes i) rest ∙ element_in-plane pixels pixel (before + n) planes p e h
+    ∙ ap (λ t. pixels * t + pixel * slice_index planes p + e) total
+
+pub elements_in_order : (pixels pixel : ℕ) (planes : List ℕ) (p e : ℕ) → e < slice_index planes p
+    → element_in pixels pixel 0 planes (sum (take p planes) + e) ≡ pixels * sum (take p planes) + pixel * slice_index planes p + e
+elements_in_order pixels pixel planes p e h =
+    let start : 0 + sum (take p planes) ≡ sum (take p planes) = omega arith in
+    element_in-plane pixels pixel 0 planes p e h ∙ ap (λ t. pixels * t + pixel * slice_index planes p + e) start

@@ -1,5 +1,5 @@
 -- Where a checked answer is there, it is the exact one.
-use Rattle.std.proofs.Common.{◌≡◌, ℕ, List, [], ◌∷◌, refl, sym, ◌∙◌, ap}
+use Rattle.std.proofs.Common.{◌≡◌, ℕ, List, [], ◌∷◌, ◌++◌, refl, sym, ◌∙◌, ap}
 use Rattle.std.specs.Prelude.{Option, Some, None}
 use Rattle.std.specs.Option.{option_map, option_and_then}
 use Rattle.std.proofs.lemmas.Option.{same_Some, option_and_then_some, cond_some, none-some}
@@ -13,7 +13,7 @@ use Rattle.op_list.specs.declared.op.Op.TheVariants.{Read, Write, SwapBytes, Unp
 use Rattle.op_list.specs.declared.values.Values.{Values}
 use Rattle.op_list.specs.declared.values.Values.TheVariants.{Fractions}
 use Rattle.op_list.specs.Values.{four, all_four, fraction, fraction_in, number, no_values}
-use Rattle.op_list.specs.Typing.{stage_after}
+use Rattle.op_list.specs.Typing.{stage_after, stage_from}
 use Rattle.op_list.specs.Apply.{apply, row_of, row_value}
 use Rattle.op_list.specs.Checked.{checked_apply, checked_row, checked_term}
 use Rattle.op_list.specs.Run.{run_from, checked_run_from, run, checked_run}
@@ -78,3 +78,10 @@ unfolding checked_run run
 checked_run-exact ops frame width rows x row y elements h =
     option_map_some _ (checked_run_from frame _ _ ops no_values) elements h
     (λ last is e. rw (checked_run_from-exact frame _ _ ops no_values last is) e)
+
+-- one part after the other
+pub run_from-append : (frame : List ℕ) (place : Place) (stage : Stage) (first second : List Op) (values : Values)
+    → run_from frame place stage (first ++ second) values ≡ run_from frame place (stage_from stage first) second (run_from frame place stage first values)
+unfolding run_from stage_from
+run_from-append frame place stage [] second values = refl
+run_from-append frame place stage (op ∷ first) second values = run_from-append frame place (stage_after stage op) first second (apply frame place stage op values)

@@ -3,6 +3,7 @@ pub mod Elements
 pub mod Entries
 pub mod Exact
 pub mod Fields
+pub mod Fitting
 pub mod Four
 pub mod Ordered
 pub mod Pushed

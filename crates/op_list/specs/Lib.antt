@@ -1,5 +1,7 @@
 pub mod Apply
 pub mod Checked
+pub mod Fits
+pub mod Laws
 pub mod Pixel
 pub mod Run
 pub mod Types

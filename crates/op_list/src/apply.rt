@@ -20,7 +20,7 @@ use crate::values::Values;
 impl Op {
     // What the operation makes of the values at a place of a frame. None where the numbers of a fraction leave i128.
     #[tactic(auto, unfolding(crate::specs::Checked::checked_apply, crate::specs::Apply::apply))]
-    pub fn apply(&self, frame: &[u8], place: &Place, stage: Stage, values: &Values) -> Option<Values>
+    pub(crate) fn apply(&self, frame: &[u8], place: &Place, stage: Stage, values: &Values) -> Option<Values>
         requires { MayApply frame.now place.now stage self.now values.now }
         ensures { result ≡ checked_apply frame.now place.now stage self.now values.now }
     {

@@ -10,13 +10,13 @@ ghost use Rattle.op_list.specs.Apply.{cleared, cleared_number, cleared_fraction,
 use frac_math::Frac;
 
 use crate::fractions::swizzled_fractions;
-use crate::numbers::{reduced, swizzled_numbers};
+use crate::numbers::{multiplied, swizzled_numbers};
 use crate::types::PixType;
 use crate::values::Values;
 
 impl Values {
     // The given entries in place of the values, where numbers have so many bits.
-    pub fn cleared(&self, entries: &[Option<Frac>; 4], bits: u32) -> Values
+    pub(crate) fn cleared(&self, entries: &[Option<Frac>; 4], bits: u32) -> Values
         requires bits { bits ≤ 32 }
         requires fit { are_fractions self.now ≡ false → all_fit bits entries.now ≡ true }
         ensures { result ≡ cleared entries.now self.now }
@@ -28,7 +28,7 @@ impl Values {
     }
 
     // New value i is old value from[i].
-    pub fn swizzled(&self, from: &[u8; 4]) -> Values
+    pub(crate) fn swizzled(&self, from: &[u8; 4]) -> Values
         requires { All (λ i. i < 4) from.now }
         ensures { result ≡ swizzled from.now self.now }
     {
@@ -39,7 +39,7 @@ impl Values {
     }
 
     // The values in another type.
-    pub fn converted(&self, to: PixType, expand: bool) -> Values
+    pub(crate) fn converted(&self, to: PixType, expand: bool) -> Values
         ensures { result ≡ converted to expand self.now }
     {
         match to {
@@ -67,7 +67,7 @@ impl Values {
         ensures { result ≡ as_numbers expand bits self.now }
     {
         match self {
-            Values::Numbers(values) => Values::Numbers(reduced(values, factor(expand), bits)),
+            Values::Numbers(values) => Values::Numbers(multiplied(values, factor(expand), bits)),
             Values::Fractions(values) => Values::Numbers(floors(values, bits)),
         }
     }

@@ -5,6 +5,7 @@ mod apply;
 mod convert;
 mod fault;
 mod fractions;
+mod laws;
 mod list;
 mod numbers;
 mod op;
@@ -16,8 +17,7 @@ mod typing;
 mod values;
 
 pub use fault::PushFault;
+pub use laws::{applies_exactly, applies_where_it_fits, crosses_threads, reads_in_order, runs_exactly, runs_in_parts, runs_where_it_fits};
 pub use list::{MOST_OPERATIONS, OpList};
 pub use op::Op;
-pub use place::Place;
 pub use types::{PixType, Stage};
-pub use values::Values;

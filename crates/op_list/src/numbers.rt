@@ -118,19 +118,19 @@ pub fn shifted_right(values: &[u32; 4], n: u8) -> [u32; 4]
 }
 
 // Every value times a factor, modulo 2^bits.
-pub fn reduced(values: &[u32; 4], factor: u32, bits: u32) -> [u32; 4]
+pub fn multiplied(values: &[u32; 4], factor: u32, bits: u32) -> [u32; 4]
     requires { bits ≤ 32 }
     ensures { result ≡ four (λ i. slice_index values.now i * factor % 2 ^ bits) }
 {
     [
-        remainder(values[0], factor, bits),
-        remainder(values[1], factor, bits),
-        remainder(values[2], factor, bits),
-        remainder(values[3], factor, bits),
+        product_modulo(values[0], factor, bits),
+        product_modulo(values[1], factor, bits),
+        product_modulo(values[2], factor, bits),
+        product_modulo(values[3], factor, bits),
     ]
 }
 
-fn remainder(value: u32, factor: u32, bits: u32) -> u32
+fn product_modulo(value: u32, factor: u32, bits: u32) -> u32
     requires { bits ≤ 32 }
     ensures { result ≡ value * factor % 2 ^ bits }
 {

@@ -16,14 +16,14 @@ pub struct Place {
 
 impl Place {
     // The pixels of the frame.
-    pub fn pixel_count(&self) -> usize
+    pub(crate) fn pixel_count(&self) -> usize
         ensures { result ≡ pixel_count self.now }
     {
         self.width as usize * self.rows as usize
     }
 
     // The number of the pixel, which is below the count.
-    pub fn pixel_number(&self) -> usize
+    pub(crate) fn pixel_number(&self) -> usize
         requires column { self.now.x < self.now.width }
         requires row { self.now.row < self.now.rows }
         ensures value { result ≡ pixel_number self.now }

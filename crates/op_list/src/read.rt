@@ -61,12 +61,12 @@ fn element(elem: PixType, frame: &[u8], k: usize) -> u32
     match elem {
         PixType::U8 => u32::from(frame[k]),
         PixType::U16 => u32::from(frame[k * 2]) + 256 * u32::from(frame[k * 2 + 1]),
-        PixType::U32 => number_of_four(frame, k * 4),
+        PixType::U32 => four_bytes(frame, k * 4),
         PixType::Rat => 0,
     }
 }
 
-fn number_of_four(frame: &[u8], at: usize) -> u32
+fn four_bytes(frame: &[u8], at: usize) -> u32
     requires { at + 4 ≤ length frame.now }
     ensures { result ≡ number_at 4 frame.now at }
 {

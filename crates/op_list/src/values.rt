@@ -3,18 +3,18 @@ ghost use Rattle.op_list.specs.Values.{four, number, are_fractions};
 
 use frac_math::Frac;
 
-/// The four values of a pixel.
+// The four values of a pixel.
 #[derive(Clone, Copy, Debug)]
 pub enum Values {
-    /// Of a whole type.
+    // Of a whole type.
     Numbers([u32; 4]),
-    /// Of the type of fractions.
+    // Of the type of fractions.
     Fractions([Frac; 4]),
 }
 
 impl Values {
     // The numbers of a whole type.
-    pub fn numbers(&self) -> &[u32; 4]
+    pub(crate) fn numbers(&self) -> &[u32; 4]
         requires { are_fractions self.now ≡ false }
         ensures { self.now ≡ Values.Numbers result.now }
     {
@@ -25,7 +25,7 @@ impl Values {
     }
 
     // The numbers, one after the other.
-    pub fn elements(&self) -> [u32; 4]
+    pub(crate) fn elements(&self) -> [u32; 4]
         requires { are_fractions self.now ≡ false }
         ensures { result ≡ four (λ i. number self.now i) }
     {
@@ -34,7 +34,7 @@ impl Values {
     }
 
     // The fractions of the type of fractions.
-    pub fn fractions(&self) -> &[Frac; 4]
+    pub(crate) fn fractions(&self) -> &[Frac; 4]
         requires { are_fractions self.now ≡ true }
         ensures { self.now ≡ Values.Fractions result.now }
     {
