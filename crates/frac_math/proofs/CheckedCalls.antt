@@ -1,5 +1,5 @@
 -- What the checked calls answer, as computed and as stated.
-use Rattle.std.proofs.Common.{◌≡◌, ◌^◌, ◌*◌, Bool, true, false, not, ◌&&◌, if◌then◌else◌, ltb-true, lt-ltb, ℤ, pos, negsuc, ◌+ℤ◌, ◌*ℤ◌, refl, ap, arith}
+use Rattle.std.proofs.Common.{ap, ◌≡◌, ◌^◌, Bool, true, false, not, ◌&&◌, if◌then◌else◌, ltb-true, lt-ltb, ℤ, pos, negsuc, ◌+ℤ◌, ◌*ℤ◌, refl, arith}
 use Rattle.std.proofs.lemmas.Int.{ints}
 use Rattle.std.proofs.lemmas.Bool.Decides.{Decides-int_eq}
 use Rattle.std.specs.Prelude.{Option, Some, None}
@@ -41,6 +41,15 @@ same_answer None (Some b) P x p q = absurd (p q.0)
 same_answer (Some a) None P x p q = absurd (q p.0)
 same_answer (Some a) (Some b) P x p q = let e = p.1 in let f = q.1 in cc
 
+-- what an answer gives, and where there is one
+pub some_where : {A : Type 0} (a : Option A) (P : Type 0) (x : A) → SomeIff a P x → P → a ≡ Some x
+some_where None P x h p = absurd (h p)
+some_where (Some y) P x h p = ap Some h.1
+
+pub value_where : {A : Type 0} (a : Option A) (P : Type 0) (x y : A) → SomeIff a P x → a ≡ Some y → P × (y ≡ x)
+value_where None P x y h e = absurd (cc)
+value_where (Some z) P x y h e = (h.0, (let v = h.1 in cc))
+
 pub checked_ratio_exact : (n d : ℤ) → SomeIff (checked_ratio n d) (RatioFits n d) (ratio n d)
 unfolding checked_ratio
 checked_ratio_exact n d =
@@ -79,3 +88,22 @@ checked_quotient_exact x y =
     (λ t. let u = and_left (a && b) c t in
     record { divisor = not_zero_from_test y.numerator (and_left a b u); numerator = fits_from_test _ (and_right a b u); denominator = fits_from_test _ (and_right (a && b) c t) })
     (λ p. both_true (a && b) c (both_true a b (test_from_not_zero y.numerator p.divisor) (test_from_fits _ p.numerator)) (test_from_fits _ p.denominator))
+
+-- ---- the answers where the numbers fit, and the values of the answers
+pub checked_sum_some : (x y : ℚ) → SumFits x y → checked_sum x y ≡ Some (x +ℚ y)
+checked_sum_some x y f = some_where (checked_sum x y) (SumFits x y) (x +ℚ y) (checked_sum_exact x y) f
+
+pub checked_sum_value : (x y z : ℚ) → checked_sum x y ≡ Some z → z ≡ x +ℚ y
+checked_sum_value x y z e = (value_where (checked_sum x y) (SumFits x y) (x +ℚ y) z (checked_sum_exact x y) e).1
+
+pub checked_product_some : (x y : ℚ) → ProductFits x y → checked_product x y ≡ Some (x *ℚ y)
+checked_product_some x y f = some_where (checked_product x y) (ProductFits x y) (x *ℚ y) (checked_product_exact x y) f
+
+pub checked_product_value : (x y z : ℚ) → checked_product x y ≡ Some z → z ≡ x *ℚ y
+checked_product_value x y z e = (value_where (checked_product x y) (ProductFits x y) (x *ℚ y) z (checked_product_exact x y) e).1
+
+pub checked_quotient_some : (x y : ℚ) → QuotientFits x y → checked_quotient x y ≡ Some (x /ℚ y)
+checked_quotient_some x y f = some_where (checked_quotient x y) (QuotientFits x y) (x /ℚ y) (checked_quotient_exact x y) f
+
+pub checked_quotient_value : (x y z : ℚ) → checked_quotient x y ≡ Some z → z ≡ x /ℚ y
+checked_quotient_value x y z e = (value_where (checked_quotient x y) (QuotientFits x y) (x /ℚ y) z (checked_quotient_exact x y) e).1

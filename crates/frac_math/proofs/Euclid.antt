@@ -1,13 +1,12 @@
 -- Euclid's steps, and what has no common divisor.
-use Rattle.std.specs.Prelude.{◌≡◌, ℕ, zero, suc, ◌+◌, ◌*◌, ◌/◌, ◌%◌, ◌<◌, ◌≤◌, Bool, true, false, ◌&&◌, T, ltb, eqb, ℤ, pos, negsuc, neg_ℤ, refl}
-use Rattle.std.proofs.Common.{arith, sym, ◌∙◌, ap, subst, lt-ltb, ltb-true, eq-eqb, eqb-true}
+use Rattle.std.specs.Prelude.{◌≡◌, ℕ, zero, suc, ◌+◌, ◌*◌, ◌/◌, ◌%◌, ◌<◌, ◌≤◌, Bool, true, false, ◌&&◌, T, ltb, eqb, ℤ, refl}
+use Rattle.std.proofs.Common.{arith, sym, ◌∙◌, ap, subst, ltb-true, eqb-true}
 use Rattle.std.specs.Int.{IsGcd}
-use Rattle.std.specs.Int.RustNames.{int_div}
 use Rattle.std.proofs.lemmas.Nat.{mod-mul-add, div-add-mod'}
 use Rattle.std.proofs.lemmas.Nat.Gcd.{IsGcd-from_zero, IsGcd-from_mod, same_from_IsGcd, le_of_dvd}
 use Prim.Native.Nat.{◌∣◌}
 use lib.IntN.{nat_abs}
-use native.Mathlib.Nat.{zero-lt-suc, div-mul_cancel, pos_of_dvd_of_pos, dvd_of_mul-dvd-mul_right, mul-dvd-mul_right, eq-one_of_dvd-one, dvd_antisymm, dvd-mul_left, dvd-mul_right}
+use native.Mathlib.Nat.{dvd_antisymm, dvd-mul_left, dvd-mul_right}
 use Rattle.frac_math.specs.Gcd.{gcd_within, gcd, is_lowest}
 use Rattle.frac_math.specs.LowestTerms.{gcd-is}
 

@@ -1,5 +1,5 @@
 -- The fractions are a commutative ring with inverses.
-use Rattle.std.proofs.Common.{subst, ◌≡◌, ℕ, zero, suc, ◌+◌, ◌*◌, ◌/◌, ◌<◌, Bool, true, false, ◌&&◌, eqb, eqb-true, T, ℤ, pos, negsuc, ◌+ℤ◌, ◌*ℤ◌, neg_ℤ, [], ◌∷◌, refl, sym, ◌∙◌, ap, arith}
+use Rattle.std.proofs.Common.{subst, ◌≡◌, ℕ, zero, suc, ◌+◌, ◌*◌, ◌/◌, ◌<◌, ◌≤◌, Bool, true, false, ◌&&◌, eqb, eqb-true, T, ℤ, pos, negsuc, ◌+ℤ◌, ◌*ℤ◌, neg_ℤ, [], ◌∷◌, refl, sym, ◌∙◌, ap, arith}
 use Rattle.std.proofs.lemmas.Int.{ints, unsigned_abs-mul}
 use Rattle.std.specs.Int.RustNames.{int_div}
 use lib.IntN.{nat_abs}
@@ -9,7 +9,8 @@ use Rattle.std.proofs.lemmas.Bool.Decides.{Decides-int_eq}
 use borrow.Author.Differences.{up, down, product_is, same_in, same_out}
 use mathlib.Core.HLevel.{is_prop→PathP}
 use Prim.Native.Nat.{◌∣◌}
-use native.Mathlib.Nat.{dvd-mul_left, div-mul_cancel, eq_of_mul-eq-mul_right, zero-lt-suc}
+use Rattle.std.proofs.lemmas.Nat.Gcd.{le_of_dvd}
+use native.Mathlib.Nat.{dvd-mul_left, mul-le-mul_left, le_of_mul-le-mul_right, div-mul_cancel, eq_of_mul-eq-mul_right, zero-lt-suc}
 use Rattle.frac_math.specs.Gcd.{gcd, is_lowest}
 use Rattle.frac_math.specs.LowestTerms.{gcd-is}
 use Rattle.frac_math.proofs.Euclid.{lowest_positive, lowest_one, same_pair, divides_other}
@@ -219,11 +220,22 @@ inverse_stands x n d s h =
     let p : 0 < n * x.denominator = product_positive n x.denominator h (denominator_positive x) in
     absurd (omega (arith, ints))))
 
--- the denominator in lowest terms divides each other denominator of the same value
+-- ---- lowest terms: the denominator divides each other one of the same value, and no other numbers are less
+sizes : (x : ℚ) (n : ℤ) (d : ℕ) → Stands x n d → nat_abs x.numerator * d ≡ nat_abs n * x.denominator
+sizes x n d s = sym (unsigned_abs-mul x.numerator (pos d)) ∙ ap nat_abs s.cross ∙ unsigned_abs-mul n (pos x.denominator)
+
 pub denominator_divides : (x : ℚ) (n : ℤ) (d : ℕ) → Stands x n d → x.denominator ∣ d
 denominator_divides x n d s =
-    let sizes : nat_abs x.numerator * d ≡ nat_abs n * x.denominator = sym (unsigned_abs-mul x.numerator (pos d)) ∙ ap nat_abs s.cross ∙ unsigned_abs-mul n (pos x.denominator) in
-    divides_other (nat_abs x.numerator) x.denominator d s.positive (lowest_one x.numerator x.denominator x.lowest) (subst (λ (m : ℕ). x.denominator ∣ m) (sym sizes) (dvd-mul_left x.denominator (nat_abs n)))
+    divides_other (nat_abs x.numerator) x.denominator d s.positive (lowest_one x.numerator x.denominator x.lowest)
+    (subst (λ (m : ℕ). x.denominator ∣ m) (sym (sizes x n d s)) (dvd-mul_left x.denominator (nat_abs n)))
+
+pub denominator_least : (x : ℚ) (n : ℤ) (d : ℕ) → Stands x n d → x.denominator ≤ d
+denominator_least x n d s = le_of_dvd s.positive (denominator_divides x n d s)
+
+pub numerator_least : (x : ℚ) (n : ℤ) (d : ℕ) → Stands x n d → nat_abs x.numerator ≤ nat_abs n
+numerator_least x n d s =
+    let part : nat_abs x.numerator * x.denominator ≤ nat_abs n * x.denominator = omega (arith, sizes x n d s, mul-le-mul_left (nat_abs x.numerator) (denominator_least x n d s)) in
+    le_of_mul-le-mul_right part (denominator_positive x)
 
 -- a quotient by what is not 0
 pub mul-div : (x y : ℚ) → (y.numerator ≡ pos 0 → ⊥) → (x *ℚ y) /ℚ y ≡ x

@@ -1,15 +1,14 @@
 -- The quotient of two fractions, from the numbers that its rule forms.
-use Rattle.std.proofs.Common.{◌≡◌, ℕ, zero, suc, ◌*◌, ◌<◌, ◌≤◌, min, ℤ, pos, negsuc, neg_ℤ, ◌*ℤ◌, ◌≤ℤ◌, ◌<ℤ◌, List, [], ◌∷◌, refl, sym, ◌∙◌, ap, subst, arith}
+use Rattle.std.proofs.Common.{◌≡◌, ℕ, zero, suc, ◌*◌, ◌<◌, min, ℤ, pos, negsuc, neg_ℤ, ◌*ℤ◌, ◌≤ℤ◌, ◌<ℤ◌, [], ◌∷◌, refl, sym, ◌∙◌, ap, subst, arith}
 use Rattle.std.proofs.lemmas.Int.{ints, to_z-of_z}
 use Rattle.std.specs.Int.{w128, cast_signed, cast_unsigned, int_signum}
-use borrow.Author.Differences.{product_is}
 use native.Mathlib.Nat.{mul-pos, zero-lt-suc}
 use Rattle.frac_math.specs.Fraction.{ℚ, over, ratio, inverse, ◌*ℚ◌, ◌/ℚ◌}
 use Rattle.frac_math.specs.Checked.{Fits}
-use Rattle.frac_math.proofs.Ring.{var, num, ◌⊕◌, ◌⊗◌, minus, ring, ring_from, by, done}
+use Rattle.frac_math.proofs.Ring.{var, num, ◌⊗◌, minus, ring, ring_from, by, done}
 use Rattle.frac_math.proofs.Integers.{ints_ring}
 use Rattle.frac_math.proofs.Casts.{cast_product}
-use Rattle.frac_math.proofs.FractionRing.{Stands, itself, same, over_stands, mul_stands, denominator_positive}
+use Rattle.frac_math.proofs.FractionRing.{itself, same, over_stands, mul_stands}
 
 pub signum_zero : (z : ℤ) → int_signum z ≡ pos 0 → z ≡ pos 0
 signum_zero (pos n) h = let e : min n 1 ≡ 0 = omega (arith, ints, h) in ap pos (omega arith)

@@ -1,5 +1,5 @@
 -- The exact calls on numbers of 128 bits: which numbers have to fit, and what each call answers.
-use Rattle.std.specs.Prelude.{◌≢◌, ◌*◌, ◌^◌, Bool, not, ◌&&◌, nat_lt, if◌then◌else◌, Option, Some, None, ℤ, pos, negsuc, ◌+ℤ◌, ◌*ℤ◌, FitsSigned}
+use Rattle.std.specs.Prelude.{◌≢◌, ◌^◌, Bool, not, ◌&&◌, nat_lt, if◌then◌else◌, Option, Some, None, ℤ, pos, negsuc, ◌+ℤ◌, ◌*ℤ◌, FitsSigned}
 use Rattle.std.specs.Ordering.{int_eq}
 use Rattle.std.specs.Int.{w128, int_signum}
 use Rattle.frac_math.specs.Fraction.{ℚ, ratio, ◌+ℚ◌, ◌*ℚ◌, ◌/ℚ◌}

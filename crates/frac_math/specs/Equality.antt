@@ -1,6 +1,4 @@
 -- The test that two fractions are equal is an equivalence.
-use Rattle.std.specs.Prelude.{ℕ, nat_eq, ℤ}
-use Rattle.std.specs.Ordering.{int_eq, on}
 use Rattle.std.specs.Cmp.{IsEquivalence, IsPartialEquivalence, nat_eq_equiv, int_eq_equiv, on_equiv, and_equiv, partial_equiv_from_equiv}
 use Rattle.frac_math.specs.Fraction.{ℚ, equal_ℚ}
 

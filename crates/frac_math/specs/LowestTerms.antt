@@ -1,6 +1,6 @@
 -- What the definition of a fraction needs proved: a fraction divided by the greatest common divisor is in lowest terms,
 -- and two numbers in lowest terms come back from the fraction that they stand for.
-use Rattle.std.specs.Prelude.{◌≡◌, ℕ, zero, suc, ◌*◌, ◌/◌, ◌%◌, ◌<◌, ◌≤◌, Bool, true, T, ◌&&◌, nat_lt, nat_eq, ℤ, pos, negsuc, neg_ℤ, ◌<ℤ◌, int_div, unsigned_abs, refl}
+use Rattle.std.specs.Prelude.{◌≡◌, ℕ, zero, suc, ◌*◌, ◌/◌, ◌%◌, ◌<◌, Bool, true, T, ◌&&◌, nat_lt, nat_eq, ℤ, pos, negsuc, neg_ℤ, int_div, unsigned_abs, refl}
 use Rattle.std.specs.Int.{IsGcd}
 use Rattle.std.proofs.Common.{sym, ◌∙◌, ap, subst, lt-ltb, eq-eqb}
 use Rattle.std.proofs.Math.Nat.{mod-lt, lt-suc_self, lt_of_lt_of_le, le_of_suc-le-suc, not-suc-le-zero, one-mul, zero-lt-suc, div-one}

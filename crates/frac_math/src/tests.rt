@@ -30,6 +30,13 @@ fn floor(x: Pair) -> Option<i128> {
     Some(Frac::new(x.0, x.1)?.floor())
 }
 
+fn dither(k: u8, x: u32, y: u32) -> Option<Pair> {
+    if k > 4 {
+        return None;
+    }
+    pair(Some(dither_at(k, x, y)))
+}
+
 #[test]
 fn reduces(rt: HostRuntime) {
     for (num, den, want) in [
@@ -47,7 +54,7 @@ fn reduces(rt: HostRuntime) {
         (0, i128::MIN, Some((0, 1))),
         (i128::MAX, -i128::MAX, Some((-1, 1))),
     ] {
-        assert_eq!(rt; pair(Frac::new(num, den)), want, "at {num}/{den}");
+        assert_eq!(rt; pair(Frac::new(num, den)), want);
     }
 }
 
@@ -65,7 +72,7 @@ fn floors(rt: HostRuntime) {
         ),
         ((i128::MIN, 1), Some(i128::MIN)),
     ] {
-        assert_eq!(rt; floor(x), want, "at {}/{}", x.0, x.1);
+        assert_eq!(rt; floor(x), want);
     }
 }
 
@@ -126,7 +133,7 @@ fn adds(rt: HostRuntime) {
         ((1, 6), (1, 10), Some((4, 15))),
         ((-5, 12), (3, 20), Some((-4, 15))),
     ] {
-        assert_eq!(rt; sum(x, y), want, "at {}/{} + {}/{}", x.0, x.1, y.0, y.1);
+        assert_eq!(rt; sum(x, y), want);
     }
 }
 
@@ -182,7 +189,7 @@ fn multiplies(rt: HostRuntime) {
         ),
         ((-6, 35), (14, 9), Some((-4, 15))),
     ] {
-        assert_eq!(rt; product(x, y), want, "at {}/{} * {}/{}", x.0, x.1, y.0, y.1);
+        assert_eq!(rt; product(x, y), want);
     }
 }
 
@@ -304,7 +311,6 @@ fn dithers(rt: HostRuntime) {
         (4, 9, 4, (285, 512)),
         (4, 4294967295, 4294967294, (299, 512)),
     ] {
-        let dither = dither_at(k, x, y);
-        assert_eq!(rt; (dither.num(), dither.den()), want, "at {k}, {x}, {y}");
+        assert_eq!(rt; dither(k, x, y), Some(want));
     }
 }

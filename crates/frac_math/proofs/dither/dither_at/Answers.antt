@@ -1,9 +1,9 @@
-use Rattle.std.proofs.Common.{◌≡◌, ℕ, ◌+◌, ◌*◌, ◌^◌, ◌<◌, ◌≤◌, pos, add-one, arith, refl, sym, ◌∙◌, rules}
+use Rattle.std.proofs.Common.{◌+◌, ◌*◌, pos, add-one, arith, refl, sym, rules}
 use Rattle.std.specs.Int.{w128}
 use Rattle.std.proofs.lemmas.Int.{ints, to_z-of_z}
 use native.Mathlib.Nat.{pow-suc}
-use Rattle.frac_math.specs.Dither.{digit, index}
-use Rattle.frac_math.proofs.DitherLaws.{index_number, index_number-zero, index_number-add-one, index_most, small_numbers, dither_known}
+use Rattle.frac_math.specs.Dither.{digit}
+use Rattle.frac_math.proofs.DitherLaws.{index_number-zero, index_number-add-one, index_most, small_numbers, dither_known}
 use Rattle.frac_math.proofs.Reduction.{reduced_known}
 use Rattle.frac_math.proofs.dither.dither_at.Goals as goal
 

@@ -1,5 +1,5 @@
-use Rattle.std.proofs.Common.{◌≡◌, refl, ℤ, pos, ◌*ℤ◌, ◌<ℤ◌, ◌∙◌, sym, subst, rules}
-use Rattle.std.specs.Int.{w128, int_signum, cast_signed, cast_unsigned}
+use Rattle.std.proofs.Common.{refl, pos, ◌*ℤ◌, ◌∙◌, sym, subst, rules}
+use Rattle.std.specs.Int.{w128, int_signum}
 use Rattle.std.specs.Int.RustNames.{FitsSigned}
 use Rattle.std.proofs.lemmas.Int.{to_z-of_z}
 use Rattle.frac_math.specs.Fraction.{◌/ℚ◌}

@@ -1,4 +1,4 @@
-use Rattle.std.proofs.Common.{◌≡◌, ◌*◌, ℤ, pos, ◌*ℤ◌, subst, rules}
+use Rattle.std.proofs.Common.{◌*◌, pos, subst, rules}
 use Rattle.std.specs.Int.{w128}
 use Rattle.std.specs.Int.RustNames.{FitsSigned}
 use Rattle.frac_math.specs.Fraction.{◌*ℚ◌}
