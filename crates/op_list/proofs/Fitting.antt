@@ -39,9 +39,11 @@ checked_term-some row values i total p q = rw (checked_product-some _ _ p) (chec
 pub checked_row-some : (row : List ℚ) (values : Values) → RowFits row values → checked_row row values ≡ Some (row_value row values)
 unfolding checked_row
 checked_row-some row values h =
-    rw (checked_term-some row values 0 (fraction_in row 4) h.product0 h.sum0,
-        checked_term-some row values 1 (fraction_in row 4 +ℚ product row values 0) h.product1 h.sum1,
-        checked_term-some row values 2 (fraction_in row 4 +ℚ product row values 0 +ℚ product row values 1) h.product2 h.sum2)
+    rw (
+      checked_term-some row values 0 (fraction_in row 4) h.product0 h.sum0,
+      checked_term-some row values 1 (fraction_in row 4 +ℚ product row values 0) h.product1 h.sum1,
+      checked_term-some row values 2 (fraction_in row 4 +ℚ product row values 0 +ℚ product row values 1) h.product2 h.sum2,
+    )
     (checked_term-some row values 3 (fraction_in row 4 +ℚ product row values 0 +ℚ product row values 1 +ℚ product row values 2) h.product3 h.sum3)
 
 -- ---- an operation

@@ -7,12 +7,11 @@ ghost use Rattle.op_list.specs.Values.{four, fraction_in, entry, are_fractions};
 ghost use Rattle.op_list.specs.Whole.{modulo};
 ghost use Rattle.op_list.specs.Apply.{cleared, cleared_number, cleared_fraction, swizzled, as_numbers, converted};
 
-use frac_math::Frac;
-
 use crate::fractions::swizzled_fractions;
 use crate::numbers::{multiplied, swizzled_numbers};
 use crate::types::PixType;
 use crate::values::Values;
+use frac_math::Frac;
 
 impl Values {
     // The given entries in place of the values, where numbers have so many bits.

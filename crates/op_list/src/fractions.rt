@@ -6,9 +6,8 @@ ghost use Rattle.op_list.specs.Values.{four, all_four, fraction_in, entry};
 ghost use Rattle.op_list.specs.Apply.{at_most, at_least, row_of};
 ghost use Rattle.op_list.specs.Checked.{checked_term, checked_row};
 
-use std::cmp::Ordering;
-
 use frac_math::Frac;
+use std::cmp::Ordering;
 
 // The same fraction added to every value.
 pub fn added(term: &Frac, values: &[Frac; 4]) -> Option<[Frac; 4]>

@@ -12,12 +12,17 @@ mod op;
 mod place;
 mod read;
 mod run;
+#[cfg(test)]
+mod tests;
 mod types;
 mod typing;
 mod values;
 
 pub use fault::PushFault;
-pub use laws::{applies_exactly, applies_where_it_fits, crosses_threads, reads_in_order, runs_exactly, runs_in_parts, runs_where_it_fits};
+pub use laws::{
+    applies_exactly, applies_where_it_fits, crosses_threads, reads_in_order, runs_exactly,
+    runs_in_parts, runs_where_it_fits,
+};
 pub use list::{MOST_OPERATIONS, OpList};
 pub use op::Op;
 pub use types::{PixType, Stage};

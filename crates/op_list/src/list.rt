@@ -2,16 +2,14 @@ ghost use Rattle.std.specs.Prelude.{◌≡◌, ◌<◌, ◌≤◌, ◌↔◌, tr
 ghost use Rattle.op_list.specs.Typing.{may_follow, are_good, stage_of, IsOpList, ends_with_write};
 ghost use Rattle.op_list.specs.Run.{read_length, checked_run};
 
-use std::alloc::Global;
-use std::marker::Model;
-
-use frac_math::Frac;
-
 use crate::fault::PushFault;
 use crate::op::Op;
 use crate::place::Place;
 use crate::run::values_after;
 use crate::types::Stage;
+use frac_math::Frac;
+use std::alloc::Global;
+use std::marker::Model;
 
 /// The most operations of a list.
 pub const MOST_OPERATIONS: usize = 24;
@@ -51,9 +49,7 @@ impl OpList {
     pub fn push(&mut self, op: Op) -> Result<(), PushFault>
         ensures wrong_type { (result ≡ Err PushFault.WrongType) ↔ (may_follow (stage_of self.old) op ≡ false) }
         ensures bad_argument { (result ≡ Err PushFault.BadArgument) ↔ ((may_follow (stage_of self.old) op ≡ true) × (are_good (stage_of self.old) op ≡ false)) }
-        ensures too_long {
-            (result ≡ Err PushFault.TooLong) ↔ ((may_follow (stage_of self.old) op ≡ true) × (are_good (stage_of self.old) op ≡ true) × (length self.old ≡ 24))
-        }
+        ensures too_long { (result ≡ Err PushFault.TooLong) ↔ ((may_follow (stage_of self.old) op ≡ true) × (are_good (stage_of self.old) op ≡ true) × (length self.old ≡ 24)) }
         ensures ok { OnOk result (self.new ≡ self.old ++ op ∷ []) }
         ensures err { OnErr result (self.new ≡ self.old) }
     {
@@ -92,7 +88,15 @@ impl OpList {
 
     /// The elements that are given to Write for the pixel at column x of a row, and 0 for the others. The dither goes by x and y.
     /// The frame has the length that the list's Read states for `width` and `rows`. None where the numbers of a fraction leave i128. It takes no memory.
-    pub fn run_pixel(&self, frame: &[u8], width: u32, rows: u32, x: u32, row: u32, y: u32) -> Option<[u32; 4]>
+    pub fn run_pixel(
+        &self,
+        frame: &[u8],
+        width: u32,
+        rows: u32,
+        x: u32,
+        row: u32,
+        y: u32,
+    ) -> Option<[u32; 4]>
         requires whole { ends_with_write self.now ≡ true }
         requires column { x < width }
         requires row { row < rows }

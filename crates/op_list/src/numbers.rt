@@ -114,7 +114,12 @@ pub fn shifted_right(values: &[u32; 4], n: u8) -> [u32; 4]
     requires { n < 32 }
     ensures { result ≡ four (λ i. slice_index values.now i / 2 ^ n) }
 {
-    [values[0] >> n, values[1] >> n, values[2] >> n, values[3] >> n]
+    [
+        values[0] >> n,
+        values[1] >> n,
+        values[2] >> n,
+        values[3] >> n,
+    ]
 }
 
 // Every value times a factor, modulo 2^bits.

@@ -8,7 +8,13 @@ use crate::place::Place;
 use crate::types::PixType;
 
 /// The elements of a pixel in the order of its planes, and 0 for the values that are left; or the colours of its palette entry.
-pub fn read_values(elem: PixType, planes: &[u8; 4], palette: bool, frame: &[u8], place: &Place) -> [u32; 4]
+pub fn read_values(
+    elem: PixType,
+    planes: &[u8; 4],
+    palette: bool,
+    frame: &[u8],
+    place: &Place,
+) -> [u32; 4]
     requires { IsPixelOf elem planes.now palette frame.now place.now }
     ensures { result ≡ read_values elem planes.now palette frame.now place.now }
 {
@@ -60,17 +66,15 @@ fn element(elem: PixType, frame: &[u8], k: usize) -> u32
 {
     match elem {
         PixType::U8 => u32::from(frame[k]),
-        PixType::U16 => u32::from(frame[k * 2]) + 256 * u32::from(frame[k * 2 + 1]),
-        PixType::U32 => four_bytes(frame, k * 4),
+        PixType::U16 => u32::from(u16::from_le_bytes([frame[k * 2], frame[k * 2 + 1]])),
+        PixType::U32 => u32::from_le_bytes([
+            frame[k * 4],
+            frame[k * 4 + 1],
+            frame[k * 4 + 2],
+            frame[k * 4 + 3],
+        ]),
         PixType::Rat => 0,
     }
-}
-
-fn four_bytes(frame: &[u8], at: usize) -> u32
-    requires { at + 4 ≤ length frame.now }
-    ensures { result ≡ number_at 4 frame.now at }
-{
-    u32::from(frame[at]) + 256 * (u32::from(frame[at + 1]) + 256 * (u32::from(frame[at + 2]) + 256 * u32::from(frame[at + 3])))
 }
 
 // Red, green, blue and alpha of the entry of the pixel's index.
@@ -80,5 +84,10 @@ fn palette_colours(frame: &[u8], place: &Place) -> [u32; 4]
     ensures { result ≡ palette_colours frame.now place.now }
 {
     let at = place.pixel_count() + 4 * usize::from(frame[place.pixel_number()]);
-    [u32::from(frame[at + 2]), u32::from(frame[at + 1]), u32::from(frame[at]), u32::from(frame[at + 3])]
+    [
+        u32::from(frame[at + 2]),
+        u32::from(frame[at + 1]),
+        u32::from(frame[at]),
+        u32::from(frame[at + 3]),
+    ]
 }

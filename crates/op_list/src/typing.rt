@@ -2,11 +2,10 @@ ghost use Rattle.std.specs.Prelude.{◌≡◌, ◌≤◌, nat_eq};
 ghost use Rattle.std.specs.List.{list_all};
 ghost use Rattle.op_list.specs.Typing.{may_follow, is_write, stage_after, are_good, are_in_front, are_counts, fits_bits, all_fit};
 
-use frac_math::Frac;
-
 use crate::numbers::total;
 use crate::op::Op;
 use crate::types::{PixType, Stage};
+use frac_math::Frac;
 
 impl Op {
     /// Whether an operation of this kind may follow.
@@ -18,9 +17,14 @@ impl Op {
             Op::Read { .. } => stage.is_start(),
             Op::Write { elem, .. } => stage.has_type(*elem),
             Op::SwapBytes => stage.is_wide(),
-            Op::Unpack { .. } | Op::Pack { .. } | Op::LeftShift { .. } | Op::RightShift { .. } => stage.is_whole(),
+            Op::Unpack { .. } | Op::Pack { .. } | Op::LeftShift { .. } | Op::RightShift { .. } =>
+                stage.is_whole(),
             Op::Clear { .. } | Op::Swizzle { .. } | Op::Convert { .. } => stage.is_typed(),
-            Op::Dither { .. } | Op::Linear { .. } | Op::Scale { .. } | Op::Min { .. } | Op::Max { .. } => stage.is_rational(),
+            Op::Dither { .. }
+            | Op::Linear { .. }
+            | Op::Scale { .. }
+            | Op::Min { .. }
+            | Op::Max { .. } => stage.is_rational(),
         }
     }
 
@@ -53,13 +57,18 @@ impl Op {
         ensures { result ≡ are_good stage self.now }
     {
         match self {
-            Op::Read { elem, planes, palette } => is_good_read(*elem, planes, *palette),
+            Op::Read {
+                elem,
+                planes,
+                palette,
+            } => is_good_read(*elem, planes, *palette),
             Op::Write { elem, planes } => elem.is_whole() && are_counts(planes, 4),
             Op::Unpack { widths } | Op::Pack { widths } => are_counts(widths, stage.bits()),
             Op::Clear { values } => stage.is_rational() || all_fit(values, stage.bits()),
             Op::LeftShift { n } | Op::RightShift { n } => u32::from(*n) < stage.bits(),
             Op::Swizzle { from } => from.iter().all(|i| *i < 4),
-            Op::Convert { to, expand } => !*expand || (stage.has_type(PixType::U8) && *to == PixType::U16),
+            Op::Convert { to, expand } => !*expand
+                || (stage.has_type(PixType::U8) && *to == PixType::U16),
             Op::Dither { k } => *k <= 4,
             _ => true,
         }
@@ -70,7 +79,9 @@ impl Op {
 fn is_good_read(elem: PixType, planes: &[u8; 4], palette: bool) -> bool
     ensures { result ≡ are_good Stage.Start (Op.Read elem planes.now palette) }
 {
-    elem.is_whole() && are_counts(planes, 4) && (!palette || (elem == PixType::U8 && *planes == [1, 0, 0, 0]))
+    elem.is_whole()
+        && are_counts(planes, 4)
+        && (!palette || (elem == PixType::U8 && *planes == [1, 0, 0, 0]))
 }
 
 // From 1 to `most` in all, and those above 0 come first.
