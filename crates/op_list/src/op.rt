@@ -2,7 +2,7 @@ use crate::types::PixType;
 use frac_math::Frac;
 
 /// An operation on the four values of a pixel, which are numbered 0 to 3.
-#[derive(Clone, Copy, Debug)]
+#[derive(Clone, Copy, Debug, PartialEq, Eq)]
 pub enum Op {
     /// The first operation. It takes `planes[p]` elements of each plane p for a pixel, in the order of the planes, and 0 for the values that are left.
     /// With `palette` the one element is an index, and the values are red, green, blue and alpha of its entry.
