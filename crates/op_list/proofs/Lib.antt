@@ -1,0 +1,10 @@
+pub mod Applied
+pub mod Elements
+pub mod Entries
+pub mod Exact
+pub mod Fields
+pub mod Fitting
+pub mod Four
+pub mod Ordered
+pub mod Pushed
+pub mod Steps

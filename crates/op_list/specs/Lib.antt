@@ -1,0 +1,10 @@
+pub mod Apply
+pub mod Checked
+pub mod Fits
+pub mod Laws
+pub mod Pixel
+pub mod Run
+pub mod Types
+pub mod Typing
+pub mod Values
+pub mod Whole

@@ -1,0 +1,28 @@
+//! Lists of operations that convert a pixel: how they may follow one another, their exact meaning, and their evaluation in fractions of 128 bits.
+#![tactic(auto)]
+
+mod apply;
+mod convert;
+mod fault;
+mod fractions;
+mod laws;
+mod list;
+mod numbers;
+mod op;
+mod place;
+mod read;
+mod run;
+#[cfg(test)]
+mod tests;
+mod types;
+mod typing;
+mod values;
+
+pub use fault::PushFault;
+pub use laws::{
+    applies_exactly, applies_where_it_fits, crosses_threads, reads_in_order, runs_exactly,
+    runs_in_parts, runs_where_it_fits,
+};
+pub use list::{MOST_OPERATIONS, OpList};
+pub use op::Op;
+pub use types::{PixType, Stage};

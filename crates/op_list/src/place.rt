@@ -1,0 +1,34 @@
+ghost use Rattle.std.specs.Prelude.{◌≡◌, ◌<◌};
+ghost use Rattle.op_list.specs.Pixel.{pixel_count, pixel_number};
+
+/// The place of a pixel in a frame of `width` by `rows` pixels, which may be some rows of a larger frame.
+#[derive(Clone, Copy, Debug)]
+pub struct Place {
+    pub width: u32,
+    pub rows: u32,
+    /// The column.
+    pub x: u32,
+    /// The row of this frame.
+    pub row: u32,
+    /// The row of the larger frame, by which the dither goes.
+    pub y: u32,
+}
+
+impl Place {
+    // The pixels of the frame.
+    pub(crate) fn pixel_count(&self) -> usize
+        ensures { result ≡ pixel_count self.now }
+    {
+        self.width as usize * self.rows as usize
+    }
+
+    // The number of the pixel, which is below the count.
+    pub(crate) fn pixel_number(&self) -> usize
+        requires column { self.now.x < self.now.width }
+        requires row { self.now.row < self.now.rows }
+        ensures value { result ≡ pixel_number self.now }
+        ensures below { result < pixel_count self.now }
+    {
+        self.row as usize * self.width as usize + self.x as usize
+    }
+}

@@ -1,0 +1,93 @@
+ghost use Rattle.std.specs.Prelude.{◌≡◌, ◌+◌, ◌*◌, ◌<◌, ◌≤◌, IsTrue, true, if◌then◌else◌, nat_lt, length, sum, slice_index};
+ghost use Rattle.op_list.specs.Types.{bytes, is_whole_type};
+ghost use Rattle.op_list.specs.Pixel.{number_at, element, element_in, element_of, pixel_count, pixel_number, colours, palette_colours, read_values};
+ghost use Rattle.op_list.specs.Pixel.{IsPixelOf, HasElements, HasPalette};
+ghost use Rattle.op_list.specs.Values.{four};
+
+use crate::place::Place;
+use crate::types::PixType;
+
+/// The elements of a pixel in the order of its planes, and 0 for the values that are left; or the colours of its palette entry.
+pub fn read_values(
+    elem: PixType,
+    planes: &[u8; 4],
+    palette: bool,
+    frame: &[u8],
+    place: &Place,
+) -> [u32; 4]
+    requires { IsPixelOf elem planes.now palette frame.now place.now }
+    ensures { result ≡ read_values elem planes.now palette frame.now place.now }
+{
+    if palette {
+        palette_colours(frame, place)
+    } else {
+        elements_of(elem, planes, frame, place)
+    }
+}
+
+// The elements of a pixel, and 0 for the values that are left.
+fn elements_of(elem: PixType, planes: &[u8; 4], frame: &[u8], place: &Place) -> [u32; 4]
+    requires { HasElements elem planes.now frame.now place.now }
+    ensures { result ≡ four (λ i. element_of elem planes.now frame.now place.now i) }
+{
+    [
+        element_of(elem, planes, frame, place, 0),
+        element_of(elem, planes, frame, place, 1),
+        element_of(elem, planes, frame, place, 2),
+        element_of(elem, planes, frame, place, 3),
+    ]
+}
+
+// Element i of a pixel, and 0 where it has fewer.
+#[tactic(auto, unfolding(crate::specs::Pixel::element_of))]
+fn element_of(elem: PixType, planes: &[u8; 4], frame: &[u8], place: &Place, i: usize) -> u32
+    requires { HasElements elem planes.now frame.now place.now }
+    ensures { result ≡ element_of elem planes.now frame.now place.now i }
+{
+    let pixels = place.pixel_count();
+    let pixel = place.pixel_number();
+    let mut before = 0;
+    let mut rest = i;
+    for n in planes {
+        let n = usize::from(*n);
+        if rest < n {
+            return element(elem, frame, pixels * before + pixel * n + rest);
+        }
+        before += n;
+        rest -= n;
+    }
+    0
+}
+
+// Element k of a frame: a little-endian number.
+fn element(elem: PixType, frame: &[u8], k: usize) -> u32
+    requires { (k + 1) * bytes elem ≤ length frame.now }
+    ensures { result ≡ element elem frame.now k }
+{
+    match elem {
+        PixType::U8 => u32::from(frame[k]),
+        PixType::U16 => u32::from(u16::from_le_bytes([frame[k * 2], frame[k * 2 + 1]])),
+        PixType::U32 => u32::from_le_bytes([
+            frame[k * 4],
+            frame[k * 4 + 1],
+            frame[k * 4 + 2],
+            frame[k * 4 + 3],
+        ]),
+        PixType::Rat => 0,
+    }
+}
+
+// Red, green, blue and alpha of the entry of the pixel's index.
+#[tactic(auto, unfolding(crate::specs::Pixel::palette_colours))]
+fn palette_colours(frame: &[u8], place: &Place) -> [u32; 4]
+    requires { HasPalette frame.now place.now }
+    ensures { result ≡ palette_colours frame.now place.now }
+{
+    let at = place.pixel_count() + 4 * usize::from(frame[place.pixel_number()]);
+    [
+        u32::from(frame[at + 2]),
+        u32::from(frame[at + 1]),
+        u32::from(frame[at]),
+        u32::from(frame[at + 3]),
+    ]
+}
