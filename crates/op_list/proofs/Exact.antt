@@ -1,7 +1,7 @@
 -- Where a checked answer is there, it is the exact one.
-use Rattle.std.proofs.Common.{◌≡◌, ℕ, List, [], ◌∷◌, ◌++◌, refl, sym, ◌∙◌, ap}
+use Rattle.std.proofs.Common.{◌≡◌, ℕ, List, [], ◌∷◌, ◌++◌, refl, ◌∙◌, ap}
 use Rattle.std.specs.Prelude.{Option, Some, None}
-use Rattle.std.specs.Option.{option_map, option_and_then}
+use Rattle.std.specs.Option.{option_map}
 use Rattle.std.proofs.lemmas.Option.{same_Some, option_and_then_some, cond_some, none-some}
 use Rattle.frac_math.specs.Fraction.{ℚ, ◌+ℚ◌, ◌*ℚ◌}
 use Rattle.frac_math.specs.Checked.{checked_sum, checked_product}
@@ -9,10 +9,10 @@ use Rattle.frac_math.specs.Dither.{dither_at}
 use Rattle.op_list.specs.declared.types.Stage.{Stage}
 use Rattle.op_list.specs.declared.place.Place.{Place}
 use Rattle.op_list.specs.declared.op.Op.{Op}
-use Rattle.op_list.specs.declared.op.Op.TheVariants.{Read, Write, SwapBytes, Unpack, Pack, Clear, LeftShift, RightShift, Swizzle, Convert, Dither, Linear, Scale, Min, Max}
+use Rattle.op_list.specs.declared.op.Op.TheVariants.{Dither, Linear, Scale}
 use Rattle.op_list.specs.declared.values.Values.{Values}
 use Rattle.op_list.specs.declared.values.Values.TheVariants.{Fractions}
-use Rattle.op_list.specs.Values.{four, all_four, fraction, fraction_in, number, no_values}
+use Rattle.op_list.specs.Values.{four, all_four, fraction, fraction_in, no_values}
 use Rattle.op_list.specs.Typing.{stage_after, stage_from}
 use Rattle.op_list.specs.Apply.{apply, row_of, row_value}
 use Rattle.op_list.specs.Checked.{checked_apply, checked_row, checked_term}

@@ -1,5 +1,5 @@
 -- The lesser and the greater of two fractions, from their order.
-use Rattle.std.proofs.Common.{◌≡◌, Less, Equal, Greater, refl, sym, subst}
+use Rattle.std.proofs.Common.{◌≡◌, Less, Equal, Greater, refl, subst}
 use Rattle.std.specs.Ordering.{MatchOrdering}
 use Rattle.std.specs.declared.cmp.Ordering.{Ordering}
 use Rattle.frac_math.specs.Fraction.{ℚ, order, min_ℚ, max_ℚ, ◌<ℚ◌, ◌≤ℚ◌}

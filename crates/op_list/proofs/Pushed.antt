@@ -1,10 +1,10 @@
 -- A list with one operation more.
-use Rattle.std.proofs.Common.{◌≡◌, ℕ, ◌+◌, ◌<◌, ◌≤◌, true, ◌&&◌, List, [], ◌∷◌, ◌++◌, length, length-append, refl, sym, ◌∙◌, ap, arith}
+use Rattle.std.proofs.Common.{◌≡◌, ◌<◌, true, ◌&&◌, List, [], ◌∷◌, ◌++◌, length, length-append, refl, sym, ◌∙◌, arith}
 use Rattle.std.proofs.lemmas.Bool.{and_parts, and_from}
 use Rattle.op_list.specs.declared.types.Stage.{Stage}
 use Rattle.op_list.specs.declared.types.Stage.TheVariants.{Start}
 use Rattle.op_list.specs.declared.op.Op.{Op}
-use Rattle.op_list.specs.Typing.{may_follow, are_good, stage_after, stage_from, stage_of, are_typed, IsOpList, LeavesStage}
+use Rattle.op_list.specs.Typing.{may_follow, are_good, stage_after, stage_from, are_typed, LeavesStage}
 
 pub stage_from-append : (stage : Stage) (ops rest : List Op) → stage_from stage (ops ++ rest) ≡ stage_from (stage_from stage ops) rest
 unfolding stage_from

@@ -1,8 +1,7 @@
 -- A list runs: each operation of it may be applied to what those before it leave.
-use Rattle.std.proofs.Common.{◌≡◌, ℕ, ◌+◌, ◌-◌, ◌<◌, Bool, true, false, ◌&&◌, List, [], ◌∷◌, ◌++◌, length, get_or, drop, suc, add-one, drop-cons, subst, refl, sym, ◌∙◌, ap, arith}
+use Rattle.std.proofs.Common.{◌≡◌, ℕ, ◌+◌, ◌-◌, ◌<◌, Bool, true, false, ◌&&◌, List, [], ◌∷◌, length, get_or, drop, suc, add-one, drop-cons, subst, refl, sym, ◌∙◌, ap, arith}
 use Rattle.std.specs.Prelude.{Option, Some, None, slice_get, IsTrue, ◌↔◌}
-use Rattle.std.specs.Option.{option_and_then}
-use Rattle.std.proofs.lemmas.Bool.{and_parts, and_from}
+use Rattle.std.proofs.lemmas.Bool.{and_parts}
 use Rattle.std.proofs.lemmas.Option.{same_Some, none-some, option_and_then_some}
 use Rattle.frac_math.specs.Fraction.{ℚ}
 use Rattle.op_list.specs.declared.types.PixType.{PixType}
@@ -14,7 +13,7 @@ use Rattle.op_list.specs.declared.op.Op.{Op}
 use Rattle.op_list.specs.declared.op.Op.TheVariants.{Read, Write, SwapBytes, Unpack, Pack, Clear, LeftShift, RightShift, Swizzle, Convert, Dither, Linear, Scale, Min, Max}
 use Rattle.op_list.specs.declared.values.Values.{Values}
 use Rattle.op_list.specs.declared.values.Values.TheVariants.{Numbers, Fractions}
-use Rattle.op_list.specs.Types.{is_start, is_rational, is_whole, is_whole_type}
+use Rattle.op_list.specs.Types.{is_start, is_rational, is_whole_type}
 use Rattle.op_list.specs.Typing.{may_follow, are_good, stage_after, stage_from, are_typed, are_counts, is_write, ends_with_write, IsOpList}
 use Rattle.op_list.specs.Values.{are_fractions, no_values, four, number}
 use Rattle.op_list.specs.Apply.{apply, cleared, swizzled, converted}

@@ -1,5 +1,5 @@
 -- The same in fractions whose numbers have to fit in 128 bits: none where one of them does not.
-use Rattle.std.specs.Prelude.{ℕ, List, Option, Some, None}
+use Rattle.std.specs.Prelude.{ℕ, List, Option, Some}
 use Rattle.std.specs.Option.{option_map, option_and_then}
 use Rattle.frac_math.specs.Fraction.{ℚ}
 use Rattle.frac_math.specs.Checked.{checked_sum, checked_product}

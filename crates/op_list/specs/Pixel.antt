@@ -1,5 +1,5 @@
 -- The elements of a pixel in a frame: the planes one after the other, in each the pixels one after the other, each with the same number of elements.
-use Rattle.std.specs.Prelude.{◌≡◌, ◌<◌, ◌≤◌, length, true, ℕ, zero, suc, ◌+◌, ◌-◌, ◌*◌, ◌/◌, Bool, if◌then◌else◌, nat_lt, List, [], ◌∷◌, sum, slice_index}
+use Rattle.std.specs.Prelude.{◌≡◌, ◌<◌, ◌≤◌, length, true, ℕ, zero, suc, ◌+◌, ◌-◌, ◌*◌, Bool, if◌then◌else◌, nat_lt, List, [], ◌∷◌, sum, slice_index}
 use Rattle.op_list.specs.declared.types.PixType.{PixType}
 use Rattle.op_list.specs.declared.place.Place.{Place}
 use Rattle.op_list.specs.declared.op.Op.{Op}

@@ -1,5 +1,5 @@
 -- The meaning of a list: its operations one after the other, from the elements of a pixel to those that are written.
-use Rattle.std.specs.Prelude.{◌≡◌, ◌<◌, true, length, ℕ, List, [], ◌∷◌, Option, Some, None}
+use Rattle.std.specs.Prelude.{◌≡◌, ◌<◌, true, length, ℕ, List, [], ◌∷◌, Option, Some}
 use Rattle.std.specs.Option.{option_map, option_and_then}
 use Rattle.op_list.specs.declared.types.Stage.{Stage}
 use Rattle.op_list.specs.declared.types.Stage.TheVariants.{Start}

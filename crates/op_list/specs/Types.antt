@@ -3,7 +3,7 @@ use Rattle.std.specs.Prelude.{ℕ, ◌/◌, Bool, true, false}
 use Rattle.op_list.specs.declared.types.PixType.{PixType}
 use Rattle.op_list.specs.declared.types.PixType.TheVariants.{U8, U16, U32, Rat}
 use Rattle.op_list.specs.declared.types.Stage.{Stage}
-use Rattle.op_list.specs.declared.types.Stage.TheVariants.{Start, Typed, Ended}
+use Rattle.op_list.specs.declared.types.Stage.TheVariants.{Start, Typed}
 
 -- the bits of a whole type; fractions have none
 abbrev pub bits : PixType → ℕ

@@ -3,7 +3,6 @@ use Rattle.std.specs.Prelude.{◌≡◌, ℕ, zero, suc, ◌^◌, Bool, true, fa
 use Rattle.std.specs.List.{list_all}
 use Rattle.std.specs.Str.{bytes_eq}
 use Rattle.frac_math.specs.Fraction.{ℚ}
-use Rattle.op_list.specs.declared.types.PixType.{PixType}
 use Rattle.op_list.specs.declared.types.PixType.TheVariants.{U8, U16}
 use Rattle.op_list.specs.declared.types.Stage.{Stage}
 use Rattle.op_list.specs.declared.types.Stage.TheVariants.{Start, Typed, Ended}

@@ -1,5 +1,5 @@
 -- The four values of a pixel.
-use Rattle.std.specs.Prelude.{ℕ, Bool, true, false, List, [], ◌∷◌, Option, Some, None, slice_index, slice_index_or}
+use Rattle.std.specs.Prelude.{ℕ, Bool, true, false, List, [], ◌∷◌, Option, None, slice_index, slice_index_or}
 use Rattle.std.specs.Option.{option_map, option_and_then}
 use Rattle.frac_math.specs.Fraction.{ℚ, nat}
 use Rattle.op_list.specs.declared.values.Values.{Values}

@@ -1,4 +1,4 @@
-use Rattle.std.proofs.Common.{◌<◌, length, arith}
+use Rattle.std.proofs.Common.{arith}
 use Rattle.op_list.proofs.Entries.{all_fit_at}
 use Rattle.op_list.proofs.convert.cleared_numbers.Goals as goal
 

@@ -1,5 +1,4 @@
-use Rattle.std.proofs.Common.{◌≡◌, ◌+◌, ◌*◌, ◌%◌, ◌<◌, ◌^◌, get_or, length, arith, ap, ◌∙◌, sym, refl}
-use Rattle.op_list.specs.Whole.{placed}
+use Rattle.std.proofs.Common.{◌≡◌, ◌+◌, ◌<◌, ◌^◌, get_or, length, arith, refl}
 use Rattle.op_list.proofs.Fields.{packed_below}
 use Rattle.op_list.proofs.Four.{sum_four, bits_below_first, bits_below_second, bits_below_third, bits_below_fourth}
 use Rattle.op_list.proofs.numbers.packed.Goals as goal

@@ -1,8 +1,4 @@
-use Rattle.std.proofs.Common.{◌≡◌, ◌∙◌, sym, length, arith}
-use Rattle.std.specs.Prelude.{Some, None}
-use Rattle.op_list.specs.declared.types.Stage.TheVariants.{Start}
-use Rattle.op_list.specs.Values.{no_values}
-use Rattle.op_list.specs.Run.{checked_run_from}
+use Rattle.std.proofs.Common.{◌∙◌, sym}
 use Rattle.op_list.proofs.Steps.{whole_numbers, checked_run-some, checked_run-none}
 use Rattle.op_list.proofs.list.OpList.run_pixel.Goals as goal
 
