@@ -4,3 +4,4 @@ pub mod Pixels
 pub mod Refused
 pub mod Packed
 pub mod Filled
+pub mod Meant

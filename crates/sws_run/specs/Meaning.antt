@@ -6,6 +6,9 @@ use Rattle.pix_desc.specs.declared.desc.Desc.{Desc}
 use Rattle.pix_desc.specs.Component.{components}
 use Rattle.pix_desc.specs.Frame.{frame_component, frame_of, IsFrameOf}
 use Rattle.pix_desc.specs.Layouts.{IsValid}
+use Rattle.pix_meaning.specs.declared.pair.Pair.{Pair}
+use Rattle.pix_meaning.specs.Pairs.{IsValidPair}
+use Rattle.pix_meaning.specs.Target.{target_rows}
 
 -- a component that is a byte of plane 0
 abbrev pub is_whole_byte : Comp → Bool
@@ -29,3 +32,8 @@ pub record IsTargetFrameLaw (source target : Desc) (width height : ℕ) (frame :
       → IsFrameOf target width height (wanted source width height frame) (target_frame source target width height frame)
   pub only : is_packed_rgb target ≡ true → IsValid target → (other : List ℕ)
       → IsFrameOf target width height (wanted source width height frame) other → other ≡ target_frame source target width height frame
+
+-- It is what the meaning of every conversion says between two packed formats, whatever the matrices, the ranges and the dither.
+abbrev pub IsMeantByPair : Pair → ℕ → ℕ → List ℕ → Type 0
+IsMeantByPair pair width height frame = IsValidPair pair → is_packed_rgb pair.from.desc ≡ true → is_packed_rgb pair.to.desc ≡ true
+    → target_rows pair width height 0 frame ≡ target_frame pair.from.desc pair.to.desc width height frame

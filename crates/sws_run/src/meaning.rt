@@ -4,7 +4,8 @@ ghost use Rattle.std.specs.List.{list_all};
 ghost use Rattle.pix_desc.specs.Layouts.{IsValid, IsLaidOut};
 ghost use Rattle.pix_desc.specs.Component.{components};
 ghost use Rattle.pix_desc.specs.declared.desc.Desc.{Desc};
-ghost use Rattle.sws_run.specs.Meaning.{is_packed_rgb, is_whole_byte, IsTargetFrameLaw};
+ghost use Rattle.sws_run.specs.Meaning.{is_packed_rgb, is_whole_byte, IsTargetFrameLaw, IsMeantByPair};
+ghost use Rattle.pix_meaning.specs.declared.pair.Pair.{Pair};
 
 use pix_desc::{Comp, Desc};
 
@@ -40,4 +41,10 @@ pub fn is_packed_rgb(desc: &Desc) -> bool
 pub fn has_one_target_frame()
     ensures { (source target : Desc) (width height : ℕ) (frame : List ℕ)
         → IsTargetFrameLaw source target width height frame }
+{}
+
+/// The law that joins this meaning to that of every conversion: between two packed formats both say the same frame.
+pub fn is_meant_by_pair()
+    ensures { (pair : Pair) (width height : ℕ) (frame : List ℕ)
+        → IsMeantByPair pair width height frame }
 {}
