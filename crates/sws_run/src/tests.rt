@@ -1,4 +1,4 @@
-ghost use Rattle.std.specs.Prelude.{◌≤◌};
+ghost use Rattle.std.specs.Prelude.{◌<◌, ◌≤◌};
 
 mod pairs;
 
@@ -45,12 +45,44 @@ fn run<R: Threads + Sync>(
     Ok((ended, sink.bytes().to_vec(alloc)?))
 }
 
+// The value of a hexadecimal digit.
+fn digit(c: u8) -> u8
+    ensures { result < 16 }
+{
+    match c {
+        b'0'..=b'9' => c - b'0',
+        b'a'..=b'f' => c - b'a' + 10,
+        _ => 0,
+    }
+}
+
+// The bytes that hexadecimal digits stand for.
+fn bytes_of(alloc: Global, text: &str) -> Result<Vec<u8>, AllocError> {
+    let digits = text.as_bytes();
+    let mut bytes = Vec::new(alloc);
+    for i in 0..digits.len() / 2 {
+        bytes.push(16 * digit(digits[2 * i]) + digit(digits[2 * i + 1]))?;
+    }
+    Ok(bytes)
+}
+
+// The line, the source frame and the target frame of a row of the table.
+fn parts_of(row: &str) -> Option<(&str, &str, &str)> {
+    let (line, frames) = row.split_once(':')?;
+    let (source, target) = frames.split_once(':')?;
+    Some((line, source, target))
+}
+
 #[test]
 fn converts_every_pair_as_the_reference(rt: HostRuntime) -> Result<(), Fail> {
-    for (line, input, output) in pairs() {
-        let (ended, written) = run(&rt, rt.alloc(), line, input, &[], 7, &[])?;
-        assert_eq!(rt; ended, Ended::Done { frames: 1 }, "{line}");
-        assert_eq!(rt; written.as_slice(), *output, "{line}");
+    assert_eq!(rt; pairs().len(), 100);
+    for row in pairs() {
+        let (line, source, target) = parts_of(row).expect(&rt, "three parts");
+        let input = bytes_of(rt.alloc(), source)?;
+        let output = bytes_of(rt.alloc(), target)?;
+        let (ended, written) = run(&rt, rt.alloc(), line, &input, &[], 7, &[])?;
+        assert_eq!(rt; ended, Ended::Done { frames: 1 });
+        assert_eq!(rt; written.as_slice(), output.as_slice());
     }
     Ok(())
 }
