@@ -1,0 +1,4 @@
+pub mod Shape
+pub mod Recipe
+pub mod Codes
+pub mod Meaning

@@ -1,0 +1,23 @@
+-- The list of a pair means its target frame: at each pixel of each frame it gives the elements of the target rows.
+use Rattle.std.specs.Prelude.{◌≡◌, ◌<◌, ℕ, ◌+◌, List, length, All}
+use Rattle.pix_desc.specs.Frame.{frame_length}
+use Rattle.pix_desc.specs.declared.desc.Desc.{Desc}
+use Rattle.pix_meaning.specs.declared.pair.Pair.{Pair}
+use Rattle.pix_meaning.specs.Target.{target_rows}
+use Rattle.op_list.specs.declared.op.Op.{Op}
+use Rattle.op_list.specs.Values.{four}
+use Rattle.op_list.specs.Pixel.{element_of}
+use Rattle.op_list.specs.Run.{run}
+use Rattle.op_build.specs.Shape.{element_type, element_counts}
+
+-- the elements of a pixel of a frame, and 0 for those that it has not
+abbrev pub elements_at : Desc → List ℕ → ℕ → ℕ → ℕ → ℕ → List ℕ
+elements_at desc frame width rows x row =
+    four (λ i. element_of (element_type desc) (element_counts desc) frame (record { width = width; rows = rows; x = x; row = row; y = row }) i)
+
+-- At every pixel of every source frame the list gives the elements of the target rows. `first` is the row of the whole frame at which the rows begin.
+abbrev pub MeansTargetRows : Pair → List Op → Type 0
+MeansTargetRows pair ops =
+    (frame : List ℕ) (width rows first x row : ℕ) → All (λ byte. byte < 256) frame → length frame ≡ frame_length pair.from.desc width rows
+    → x < width → row < rows
+    → run ops frame width rows x row (first + row) ≡ elements_at pair.to.desc (target_rows pair width rows first frame) width rows x row
