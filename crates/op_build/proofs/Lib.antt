@@ -18,3 +18,7 @@ pub mod DecodeRuns
 pub mod DecodePlain
 pub mod DecodePalette
 pub mod Decode
+pub mod ConvertLevels
+pub mod ConvertSteps
+pub mod ConvertClamp
+pub mod Convert
