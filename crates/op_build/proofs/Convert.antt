@@ -1,9 +1,8 @@
 -- Converting turns the codes of a source pixel's channels into values whose floors are the results.
-use Rattle.std.proofs.Common.{◌≡◌, ℕ, ◌+◌, ◌-◌, ◌^◌, ◌<◌, Bool, true, false, not, if◌then◌else◌, pos, List, [], ◌∷◌, ◌++◌, Some, None, refl, sym, ap, ◌∙◌, subst, arith}
+use Rattle.std.proofs.Common.{◌≡◌, ℕ, ◌+◌, ◌-◌, ◌^◌, ◌<◌, Bool, true, false, not, if◌then◌else◌, pos, List, [], ◌∷◌, ◌++◌, Some, None, refl, ap, ◌∙◌, arith}
 use Rattle.std.proofs.lemmas.Bool.{cond-true, cond-false}
 use Rattle.frac_math.specs.Fraction.{ℚ, nat, floor, ◌+ℚ◌}
 use Rattle.frac_math.specs.Dither.{dither_at}
-use Rattle.pix_desc.specs.declared.desc.Desc.{Desc}
 use Rattle.pix_desc.specs.Layouts.{IsValid}
 use Rattle.colour_matrix.specs.Levels.{from_code, to_code}
 use Rattle.colour_matrix.specs.Values.{Values, value_at}
@@ -12,7 +11,7 @@ use Rattle.pix_meaning.specs.declared.pair.Side.{Side}
 use Rattle.pix_meaning.specs.declared.pair.Pair.{Pair}
 use Rattle.pix_meaning.specs.Pairs.{IsValidPair, is_rgb, component_count, depth_of, has_channel, component_at, channel_of, levels_of}
 use Rattle.pix_meaning.specs.Values.{source_values, rgb_values, target_values, wanted}
-use Rattle.pix_meaning.specs.Target.{clamped, result_of}
+use Rattle.pix_meaning.specs.Target.{result_of}
 use Rattle.pix_meaning.proofs.Channels.{has_channels}
 use Rattle.op_list.specs.declared.op.Op.{Op}
 use Rattle.op_list.specs.declared.op.Op.TheVariants.{Convert, Dither, Linear, Min, Max}

@@ -1,23 +1,22 @@
 -- The levels of the channels: a code stands for the value of its channel, and so does the code of a missing channel.
 use Rattle.std.proofs.Common.{◌≡◌, ℕ, zero, suc, ◌+◌, ◌-◌, ◌*◌, ◌^◌, ◌<◌, ◌≤◌, ⊎_elim, Bool, true, false, ◌||◌, if◌then◌else◌, nat_eq, pos, List, [], ◌∷◌, refl, sym, ap, ◌∙◌, arith}
 use Rattle.std.proofs.lemmas.Bool.{cases_Bool, cond-true, cond-false}
-use Rattle.std.proofs.lemmas.Nat.{pow_below, pow_pos, pow-add}
-use Rattle.frac_math.specs.Fraction.{ℚ, nat, over, ◌*ℚ◌, ◌+ℚ◌, ◌-ℚ◌, inverse, neg_ℚ}
-use Rattle.frac_math.proofs.Ring.{var, num, ◌⊕◌, ◌⊖◌, ◌⊗◌, ring, ring_from, done, by}
+use Rattle.std.proofs.lemmas.Nat.{pow_below, pow-add}
+use Rattle.frac_math.specs.Fraction.{nat, ◌*ℚ◌, ◌-ℚ◌, inverse}
+use Rattle.frac_math.proofs.Ring.{var, num, ◌⊖◌, ◌⊗◌, ring, ring_from, done, by}
 use Rattle.frac_math.proofs.FractionRing.{fractions, same, itself, over_stands, mul_stands}
 use Rattle.pix_desc.specs.declared.desc.Desc.{Desc}
 use Rattle.pix_desc.specs.Component.{component_of}
 use Rattle.pix_desc.specs.Layouts.{IsValid}
 use Rattle.pix_desc.proofs.Valid.{laid_out}
 use Rattle.colour_matrix.specs.Levels.{levels, scaled_to, from_code}
-use Rattle.colour_matrix.specs.declared.class.Class.{Class}
 use Rattle.colour_matrix.specs.declared.class.Class.TheVariants.{Direct, Chroma}
 use Rattle.colour_matrix.specs.declared.class.Range.{Range}
 use Rattle.colour_matrix.specs.declared.class.Range.TheVariants.{Full, Limited}
 use Rattle.colour_matrix.proofs.Quotients.{inverse_of}
 use Rattle.pix_meaning.specs.declared.pair.Side.{Side}
 use Rattle.pix_meaning.specs.Pairs.{is_rgb, has_channel, component_at, class_of, depth_of, levels_of}
-use Rattle.pix_meaning.specs.Values.{source_component, source_value}
+use Rattle.pix_meaning.specs.Values.{source_value}
 use Rattle.pix_meaning.proofs.Passing.{value_there}
 use Rattle.op_build.specs.Recipe.{channel_depth, channel_levels, missing_code}
 use Rattle.op_build.specs.Codes.{code_of}

@@ -1,15 +1,13 @@
 -- What each operation of a conversion does to four fractions.
-use Rattle.std.proofs.Common.{◌≡◌, ℕ, ⊎_elim, Bool, true, false, not, ◌&&◌, if◌then◌else◌, pos, List, [], ◌∷◌, Some, None, refl, ap, ◌∙◌}
+use Rattle.std.proofs.Common.{◌≡◌, ℕ, ⊎_elim, Bool, true, false, not, if◌then◌else◌, pos, List, [], ◌∷◌, refl, ap, ◌∙◌}
 use Rattle.std.proofs.lemmas.Bool.{cases_Bool, and_parts}
-use Rattle.frac_math.specs.Fraction.{ℚ, nat, ◌*ℚ◌, ◌+ℚ◌, ◌-ℚ◌, ◌/ℚ◌, inverse, neg_ℚ, equal_ℚ}
-use Rattle.frac_math.specs.Dither.{dither_at}
+use Rattle.frac_math.specs.Fraction.{ℚ, nat, ◌*ℚ◌, ◌+ℚ◌, ◌/ℚ◌, inverse, neg_ℚ}
 use Rattle.frac_math.proofs.Ring.{var, num, ◌⊕◌, ◌⊖◌, ◌⊗◌, minus, ring}
 use Rattle.frac_math.proofs.FractionRing.{fractions, equal_is}
 use Rattle.colour_matrix.specs.declared.class.Levels.{Levels}
-use Rattle.colour_matrix.specs.declared.matrix.Matrix.{Matrix}
 use Rattle.colour_matrix.specs.Matrix.{IsMatrix}
 use Rattle.colour_matrix.specs.Levels.{from_code, to_code}
-use Rattle.colour_matrix.specs.Values.{Values, value_at, coefficient, row_at, row_sum, by_rows}
+use Rattle.colour_matrix.specs.Values.{Values, value_at, coefficient, row_at, by_rows}
 use Rattle.colour_matrix.specs.Colour.{to_rgb, from_rgb, to_rgb_rows, from_rgb_rows}
 use Rattle.colour_matrix.proofs.ColourRows.{by_rows-to_rgb_rows, by_rows-from_rgb_rows}
 use Rattle.pix_meaning.specs.declared.pair.Side.{Side}
