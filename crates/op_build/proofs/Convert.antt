@@ -1,5 +1,5 @@
 -- Converting turns the codes of a source pixel's channels into values whose floors are the results.
-use Rattle.std.proofs.Common.{◌≡◌, ℕ, ◌+◌, ◌-◌, ◌^◌, ◌<◌, Bool, true, false, not, if◌then◌else◌, pos, List, [], ◌∷◌, ◌++◌, Some, None, refl, ap, ◌∙◌, arith}
+use Rattle.std.proofs.Common.{◌≡◌, ℕ, ◌+◌, ◌-◌, ◌^◌, ◌<◌, Bool, true, false, not, if◌then◌else◌, pos, sym, List, [], ◌∷◌, ◌++◌, Some, None, refl, ap, ◌∙◌, arith}
 use Rattle.std.proofs.lemmas.Bool.{cond-true, cond-false}
 use Rattle.frac_math.specs.Fraction.{ℚ, nat, floor, ◌+ℚ◌}
 use Rattle.frac_math.specs.Dither.{dither_at}
@@ -63,6 +63,14 @@ coded_floor pair width rows first frame j x row valid listed =
     ∙ ap (λ d. floor (limited true d (to_code (channel_levels pair.to c) value +ℚ dither))) depth
     ∙ ap (λ l. floor (limited true (depth_of desc j) (to_code l value +ℚ dither))) (levels_there pair.to c there)
     ∙ floor_limited (to_code (levels_of pair.to c) value +ℚ dither) (depth_of desc j)
+
+-- the same by the channels that the target has
+pub coded_floor-channel : (pair : Pair) (width rows first : ℕ) (frame : List ℕ) (c x row : ℕ) → IsValidPair pair → c < 4 → has_channel pair.to.desc c ≡ true
+    → floor (coded pair width rows frame x row (first + row) c) ≡ pos (result_of pair width rows first frame (component_at pair.to.desc c) x row)
+coded_floor-channel pair width rows first frame c x row valid below there =
+    let channels = has_channels pair.to.desc valid.to in
+    ap (λ d. floor (coded pair width rows frame x row (first + row) d)) (sym (channels.channel c below there))
+    ∙ coded_floor pair width rows first frame (component_at pair.to.desc c) x row valid (channels.listed c below there)
 
 -- ---- the operations one after the other
 
