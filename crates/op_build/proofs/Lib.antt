@@ -18,3 +18,6 @@ pub mod DecodeRuns
 pub mod DecodePlain
 pub mod DecodePalette
 pub mod Decode
+pub mod EncodeRuns
+pub mod EncodePlaces
+pub mod EncodeOrder
