@@ -21,3 +21,5 @@ pub mod Decode
 pub mod EncodeRuns
 pub mod EncodePlaces
 pub mod EncodeOrder
+pub mod EncodeStarts
+pub mod EncodeBits
