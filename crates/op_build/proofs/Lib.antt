@@ -23,3 +23,4 @@ pub mod EncodePlaces
 pub mod EncodeOrder
 pub mod EncodeStarts
 pub mod EncodeBits
+pub mod EncodeElements
