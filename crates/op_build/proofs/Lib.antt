@@ -24,3 +24,4 @@ pub mod EncodeOrder
 pub mod EncodeStarts
 pub mod EncodeBits
 pub mod EncodeElements
+pub mod EncodePacked
