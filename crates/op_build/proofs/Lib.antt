@@ -25,3 +25,5 @@ pub mod EncodeStarts
 pub mod EncodeBits
 pub mod EncodeElements
 pub mod EncodePacked
+pub mod EncodeWord
+pub mod Encode
