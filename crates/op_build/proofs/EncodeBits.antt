@@ -1,12 +1,12 @@
 -- The bits of the elements of a pixel of the frame that is made of values.
-use Rattle.std.proofs.Common.{◌≡◌, ◌≢◌, ℕ, ◌+◌, ◌-◌, ◌*◌, ◌/◌, ◌%◌, ◌^◌, ◌<◌, ◌≤◌, ◌⊎◌, inl, inr, ⊎_elim, Bool, true, false, pos, List, take, get_or, sym, refl, ap, ◌∙◌, arith}
+use Rattle.std.proofs.Common.{◌≡◌, ℕ, ◌+◌, ◌*◌, ◌/◌, ◌%◌, ◌<◌, ◌⊎◌, inl, inr, ⊎_elim, Bool, true, false, pos, List, take, sym, ap, ◌∙◌, arith}
 use Rattle.std.specs.Prelude.{sum}
 use Rattle.std.specs.Int.{bit_at}
-use Rattle.std.proofs.lemmas.Bool.{cases_Bool, cases_eq}
+use Rattle.std.proofs.lemmas.Bool.{cases_Bool}
 use Rattle.std.proofs.lemmas.Nat.{div-mul-add, mod-mul-add, mul-add-lt, div-add-mod'}
 use Rattle.pix_desc.specs.declared.desc.Desc.{Desc}
-use Rattle.pix_desc.specs.Component.{component_of, bytes_read, first_byte, count_of, bit_of, bit_place}
-use Rattle.pix_desc.specs.Frame.{plane_step, row_start, frame_component, frame_of, reads_pixel_bit, FitDepths, IsFrameOf}
+use Rattle.pix_desc.specs.Component.{component_of, first_byte, count_of, bit_of}
+use Rattle.pix_desc.specs.Frame.{plane_step, row_start, reads_pixel_bit, IsFrameOf}
 use Rattle.pix_desc.specs.Layouts.{IsLaidOut}
 use Rattle.pix_desc.proofs.FramePlaces.{place_of, bit_place_is, same_place, byte_below}
 use Rattle.pix_desc.proofs.FrameReads.{IsReadBy, read_by, frame_bit_by}
@@ -82,10 +82,9 @@ module _ (desc : Desc) (width rows x row : ℕ) (value : ℕ → ℕ → ℕ →
         let whole : first ≡ first / size * size = omega (arith, div-add-mod' first size, is.first j by.listed) in
         let both : first / size * (8 * size) + bit_in_order desc.be size (c.shift + b) ≡ r * (8 * size) + bit_in_order desc.be size m = omega (arith, at, ap (λ n. 8 * n) whole) in
         let parts = same_parts (first / size) r (bit_in_order desc.be size (c.shift + b)) (bit_in_order desc.be size m) (8 * size)
-        (bit_in_order-below desc.be size (c.shift + b) within) (bit_in_order-below desc.be size m inside) both in
-        (
+        (bit_in_order-below desc.be size (c.shift + b) within) (bit_in_order-below desc.be size m inside) both in (
           element_index_is desc size laid is j ∙ ap (λ q. sum (take c.plane (element_counts desc)) + q) parts.0
-          ∙ ap (λ q. sum (take q (element_counts desc)) + r) by.there ∙ sym there.index,
+              ∙ ap (λ q. sum (take q (element_counts desc)) + r) by.there ∙ sym there.index,
           bit_in_order-apart desc.be size (c.shift + b) m within inside parts.1,
         )
 

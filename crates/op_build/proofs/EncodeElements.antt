@@ -1,5 +1,5 @@
 -- Encoding gives the elements of a pixel, where each holds one component or none.
-use Rattle.std.proofs.Common.{◌≡◌, ◌≢◌, ℕ, ◌+◌, ◌*◌, ◌/◌, ◌%◌, ◌^◌, ◌<◌, ◌≤◌, ◌⊎◌, inl, inr, ⊎_elim, Bool, true, false, not, ◌&&◌, if◌then◌else◌, nat_eq, pos, List, [], ◌∷◌, take, length, get_or, Option, Some, None, pow_pos, mod-eq_of_lt, sym, refl, ap, subst, ◌∙◌, arith}
+use Rattle.std.proofs.Common.{◌≡◌, ℕ, ◌+◌, ◌*◌, ◌/◌, ◌%◌, ◌^◌, ◌<◌, ◌≤◌, ◌⊎◌, inl, inr, ⊎_elim, true, false, not, ◌&&◌, if◌then◌else◌, nat_eq, pos, List, get_or, Option, Some, None, pow_pos, mod-eq_of_lt, sym, refl, ap, subst, ◌∙◌, arith}
 use Rattle.std.specs.Prelude.{sum, nat_lt}
 use Rattle.std.specs.Int.{bit_at}
 use Rattle.std.proofs.lemmas.Bool.{cases_lt, cases_eq, cond-true, cond-false, lt-ltb, le-ltb}

@@ -1,12 +1,8 @@
 -- The numbers at the places of a pixel: a component's value at its place, and 0 at the spare ones.
-use Rattle.std.proofs.Common.{◌≡◌, ℕ, ◌+◌, ◌^◌, ◌<◌, ◌≤◌, Bool, true, false, ◌&&◌, if◌then◌else◌, nat_eq, pos, List, length, get_or, Some, None, pow_mono, mod-eq_of_lt, ap, ◌∙◌, arith}
-use Rattle.std.specs.Prelude.{nat_lt}
+use Rattle.std.proofs.Common.{◌≡◌, ℕ, ◌+◌, ◌^◌, ◌<◌, ◌≤◌, Bool, true, false, ◌&&◌, if◌then◌else◌, nat_eq, pos, length, get_or, Some, None, pow_mono, mod-eq_of_lt, ap, ◌∙◌, arith}
 use Rattle.std.proofs.lemmas.Bool.{lt-ltb}
 use Rattle.frac_math.specs.Fraction.{ℚ, floor, nat}
 use Rattle.pix_desc.specs.declared.desc.Desc.{Desc}
-use Rattle.pix_desc.specs.Component.{component_of}
-use Rattle.pix_desc.specs.Layouts.{IsValid}
-use Rattle.pix_desc.proofs.Valid.{laid_out}
 use Rattle.pix_meaning.specs.Pairs.{channel_of, component_count}
 use Rattle.op_list.specs.declared.types.PixType.{PixType}
 use Rattle.op_list.specs.Types.{bits}

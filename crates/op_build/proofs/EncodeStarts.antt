@@ -1,5 +1,5 @@
 -- Where in a frame each element of a pixel begins, also a spare one.
-use Rattle.std.proofs.Common.{◌≡◌, ℕ, zero, suc, ◌+◌, ◌-◌, ◌*◌, ◌/◌, ◌%◌, ◌<◌, ◌≤◌, ⊎_elim, List, [], ◌∷◌, take, length, get_or, eq-zero-or-pos, sym, refl, ap, ◌∙◌, arith}
+use Rattle.std.proofs.Common.{◌≡◌, ℕ, zero, suc, ◌+◌, ◌-◌, ◌*◌, ◌/◌, ◌%◌, ◌<◌, ◌≤◌, ⊎_elim, List, [], ◌∷◌, take, length, get_or, eq-zero-or-pos, sym, ap, ◌∙◌, arith}
 use Rattle.std.specs.Prelude.{sum, nat_lt}
 use Rattle.std.proofs.lemmas.Bool.{cond-true, cond-false, lt-ltb, le-ltb, cases_lt}
 use Rattle.std.proofs.lemmas.List.Sums.{sum_by-cons, sum_by_more}
@@ -28,12 +28,15 @@ find_in_plane (n ∷ ns) i within =
     ⊎_elim
     (λ (here : i < n). (0, i, record { plane = omega arith; inside = here; index = omega arith }))
     (λ (later : n ≤ i).
-    let found = find_in_plane ns (i - n) (omega (arith, sum_by-cons (λ k. k) n ns)) in
-    (suc found.0, found.1, record {
-      plane = omega (arith, found.2.plane);
-      inside = found.2.inside;
-      index = omega (arith, found.2.index, sum_by-cons (λ k. k) n (take found.0 ns));
-    }))
+    let found = find_in_plane ns (i - n) (omega (arith, sum_by-cons (λ k. k) n ns)) in (
+      suc found.0,
+      found.1,
+      record {
+        plane = omega (arith, found.2.plane);
+        inside = found.2.inside;
+        index = omega (arith, found.2.index, sum_by-cons (λ k. k) n (take found.0 ns));
+      },
+    ))
     (cases_lt i n)
 
 element_in-plane : (pixels pixel before : ℕ) (ns : List ℕ) (p r i : ℕ) → p < length ns → r < get_or ns p 0 → i ≡ sum (take p ns) + r

@@ -1,5 +1,5 @@
 -- Encoding gives the word of a pixel, where its components are fields of one number.
-use Rattle.std.proofs.Common.{◌≡◌, ◌≢◌, ℕ, ◌+◌, ◌*◌, ◌/◌, ◌%◌, ◌^◌, ◌<◌, ◌≤◌, ⊎_elim, Bool, false, pos, List, [], ◌∷◌, drop, map, length, get_or, Some, None, pow_pos, mod-lt, mod-eq_of_lt, sym, ap, subst, ◌∙◌, arith}
+use Rattle.std.proofs.Common.{◌≡◌, ℕ, ◌+◌, ◌*◌, ◌/◌, ◌%◌, ◌^◌, ◌<◌, ◌≤◌, ⊎_elim, List, [], ◌∷◌, drop, map, length, get_or, Some, None, pow_pos, mod-lt, mod-eq_of_lt, sym, ap, subst, ◌∙◌, arith}
 use Rattle.std.specs.Prelude.{sum}
 use Rattle.std.specs.List.{range_with_len}
 use Rattle.std.specs.Int.{bit_at}
@@ -14,7 +14,7 @@ use Rattle.pix_desc.specs.Frame.{plane_step, row_start, reads_pixel_bit, IsFrame
 use Rattle.pix_desc.specs.Layouts.{IsLaidOut, is_elements, word_shift}
 use Rattle.pix_desc.proofs.Bits.{bit_at_field}
 use Rattle.pix_desc.proofs.FramePlaces.{byte_below, same_place}
-use Rattle.pix_desc.proofs.FrameReads.{IsReadBy, read_by}
+use Rattle.pix_desc.proofs.FrameReads.{read_by}
 use Rattle.pix_desc.proofs.Valid.{laid_out}
 use Rattle.op_list.specs.declared.op.Op.TheVariants.{LeftShift, Pack}
 use Rattle.op_list.specs.declared.place.Place.{Place}
@@ -40,7 +40,7 @@ use Rattle.op_build.proofs.EncodePlaces.{fits_type, spare_place, component_place
 use Rattle.op_build.proofs.EncodeRuns.{encode_by, placed_code, run_pack}
 use Rattle.op_build.proofs.FieldValues.{word_field}
 use Rattle.op_build.proofs.Lists.{get_or-four}
-use Rattle.op_build.proofs.Shapes.{HasPlaces, has_places, component_field, word_type_is}
+use Rattle.op_build.proofs.Shapes.{has_places, component_field, word_type_is}
 use Rattle.op_build.proofs.WordBits.{bit_in_order, word_place, word_end}
 use Rattle.op_build.proofs.WordShape.{HasWord, sum-widths, length-field_widths, rest_below}
 
