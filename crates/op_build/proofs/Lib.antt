@@ -22,3 +22,12 @@ pub mod ConvertLevels
 pub mod ConvertSteps
 pub mod ConvertClamp
 pub mod Convert
+pub mod EncodeRuns
+pub mod EncodePlaces
+pub mod EncodeOrder
+pub mod EncodeStarts
+pub mod EncodeBits
+pub mod EncodeElements
+pub mod EncodePacked
+pub mod EncodeWord
+pub mod Encode
