@@ -138,7 +138,7 @@ module _ (desc : Desc) (frame : List ℕ) (place : Place) (valid : IsValid desc)
       ∙ ap (entry_component place.width place.rows frame index) (sym (component_is c below))
       ∙ sym (cond-true desc.palette (entry_component place.width place.rows frame index (component_at desc c)) (frame_component desc place.width place.rows frame (component_at desc c) place.x place.row) palette)
 
-decode_is : (desc : Desc) → desc.palette ≡ true → decode desc ≡ Read U8 (1 ∷ 0 ∷ 0 ∷ 0 ∷ []) true ∷ Clear (missing_codes desc) ∷ []
+pub decode_is : (desc : Desc) → desc.palette ≡ true → decode desc ≡ Read U8 (1 ∷ 0 ∷ 0 ∷ 0 ∷ []) true ∷ Clear (missing_codes desc) ∷ []
 unfolding decode
 decode_is desc palette =
     cond-true desc.palette (Read U8 (1 ∷ 0 ∷ 0 ∷ 0 ∷ []) true ∷ Clear (missing_codes desc) ∷ [])

@@ -18,3 +18,5 @@ pub mod DecodeRuns
 pub mod DecodePlain
 pub mod DecodePalette
 pub mod Decode
+pub mod DecodeTyped
+pub mod RecipeTyped

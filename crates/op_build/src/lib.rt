@@ -6,4 +6,4 @@
 
 mod laws;
 
-pub use laws::{decoding_gives_codes, decoding_is_whole};
+pub use laws::{decoding_gives_codes, decoding_is_whole, recipe_is_list};
