@@ -20,3 +20,4 @@ pub mod DecodePalette
 pub mod Decode
 pub mod DecodeTyped
 pub mod RecipeTyped
+pub mod Layouts

@@ -5,5 +5,6 @@
 #![tactic(auto)]
 
 mod laws;
+mod shape;
 
 pub use laws::{decoding_gives_codes, decoding_is_whole, recipe_is_list};
