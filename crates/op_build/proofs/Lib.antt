@@ -21,3 +21,4 @@ pub mod Decode
 pub mod DecodeTyped
 pub mod RecipeTyped
 pub mod Layouts
+pub mod FieldSteps
