@@ -1,5 +1,5 @@
 -- Decoding is well typed.
-use Rattle.std.proofs.Common.{◌≡◌, ℕ, zero, suc, ◌+◌, ◌-◌, ◌*◌, ◌^◌, ◌<◌, ◌≤◌, ⊎_elim, Bool, true, false, not, ◌&&◌, ◌||◌, if◌then◌else◌, nat_le, List, [], ◌∷◌, ◌++◌, Option, Some, None, append_assoc, pow_mono, sym, refl, ap, ◌∙◌, arith}
+use Rattle.std.proofs.Common.{◌≡◌, ℕ, ◌+◌, ◌-◌, ◌^◌, ◌<◌, ◌≤◌, ⊎_elim, Bool, true, false, ◌&&◌, if◌then◌else◌, List, [], ◌∷◌, ◌++◌, Option, Some, None, append_assoc, pow_mono, refl, ap, ◌∙◌, arith}
 use Rattle.std.specs.Prelude.{nat_lt}
 use Rattle.std.specs.List.{list_all}
 use Rattle.std.proofs.lemmas.Bool.{and_from, or_right, cases_Bool, cond_both, cond-true, cond-false, lt-ltb}
@@ -17,8 +17,7 @@ use Rattle.op_list.specs.declared.types.Stage.{Stage}
 use Rattle.op_list.specs.declared.types.Stage.TheVariants.{Start, Typed}
 use Rattle.op_list.specs.Types.{bits, is_whole_type, is_wide, is_rational}
 use Rattle.op_list.specs.Typing.{may_follow, are_good, are_counts, are_typed, all_fit, entry_fits, stage_after}
-use Rattle.op_list.specs.Values.{four}
-use Rattle.op_build.specs.Shape.{element_bytes, element_type, element_counts, field_widths, is_swapped, position_of, slots}
+use Rattle.op_build.specs.Shape.{element_type, element_counts, field_widths, is_swapped, position_of}
 use Rattle.op_build.specs.Recipe.{decode, only_if, from_places, missing_code, missing_codes}
 use Rattle.op_build.proofs.Codes.{missing_code-below, channel_listed}
 use Rattle.op_build.proofs.DecodeRuns.{decode_by}
