@@ -1,13 +1,15 @@
 -- The codes of a source pixel's channels.
-use Rattle.std.proofs.Common.{◌≡◌, ℕ, zero, suc, ◌-◌, ◌<◌, ◌≤◌, ⊎_elim, Bool, true, false, ◌||◌, if◌then◌else◌, nat_le, List, get_or, Some, None, sym, refl, ap, ◌∙◌, arith}
-use Rattle.std.proofs.lemmas.Bool.{cases_Bool, cond-true, cond-false, leb-true}
+use Rattle.std.proofs.Common.{◌≡◌, ℕ, zero, suc, ◌-◌, ◌^◌, ◌<◌, ◌≤◌, ⊎_elim, Bool, true, false, ◌||◌, if◌then◌else◌, nat_eq, nat_le, List, get_or, Some, None, sym, refl, ap, ◌∙◌, arith}
+use Rattle.std.proofs.lemmas.Bool.{cases_Bool, cond_both, cond-true, cond-false, leb-true}
 use Rattle.std.proofs.lemmas.Bool.Decides.{nat_tests}
+use Rattle.std.proofs.lemmas.Nat.{pow_pos, pow_below}
 use Rattle.frac_math.specs.Fraction.{nat}
 use Rattle.pix_desc.specs.declared.desc.Desc.{Desc}
 use Rattle.pix_desc.specs.Frame.{frame_component}
+use Rattle.pix_desc.specs.Component.{component_of}
 use Rattle.pix_desc.specs.Layouts.{IsValid, is_count}
 use Rattle.pix_desc.proofs.Valid.{has_no_fault, laid_out}
-use Rattle.pix_meaning.specs.Pairs.{has_channel, component_at}
+use Rattle.pix_meaning.specs.Pairs.{has_channel, component_at, depth_of}
 use Rattle.pix_meaning.specs.Values.{entry_component, source_component}
 use Rattle.op_list.specs.declared.values.Values.TheVariants.{Numbers}
 use Rattle.op_list.specs.Values.{four}
@@ -82,3 +84,17 @@ in_channels desc values codes there missing =
     ap (λ b. cleared_number (if b then None else Some (nat (missing_code desc c))) (get_or (four values) (if b then position_of desc (component_at desc c) else c) 0)) not_has
     ∙ missing c not_has)
     (cases_Bool (has_channel desc c))))
+
+-- ---- how great the codes are
+
+-- depths are above 0
+depth_positive : (desc : Desc) → IsValid desc → 0 < depth_of desc 0
+depth_positive desc valid =
+    cond_both desc.palette 8 (component_of desc 0).depth (λ d. 0 < d) (λ _. omega arith) (λ _. (laid_out desc valid).deep 0 (laid_out desc valid).some)
+
+-- the code of a missing channel has the depth of component 0
+pub missing_code-below : (desc : Desc) (c : ℕ) → IsValid desc → missing_code desc c < 2 ^ depth_of desc 0
+missing_code-below desc c valid =
+    let d = depth_of desc 0 in
+    let deep = depth_positive desc valid in
+    cond_both (nat_eq c 3) (2 ^ d - 1) (2 ^ (d - 1)) (λ code. code < 2 ^ d) (λ _. omega (arith, pow_pos d)) (λ _. pow_below (d - 1) d (omega arith))

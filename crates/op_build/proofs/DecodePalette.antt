@@ -47,6 +47,9 @@ record IsByte (desc : Desc) : Type 0 where
 abbrev is_byte : Comp → Bool
 is_byte c = nat_eq c.plane 0 && nat_eq c.step 1 && int_eq c.offset (pos 0) && nat_eq c.shift 0 && nat_eq c.depth 8
 
+read_of : (c : Comp) → c.shift ≡ 0 → c.depth ≡ 8 → bytes_read c ≡ 1
+read_of c shift depth = ap (λ s. if nat_le (s + c.depth) 8 then 1 else 2) shift ∙ ap (λ d. if nat_le (0 + d) 8 then 1 else 2) depth
+
 first_of : (desc : Desc) (c : Comp) → desc.be ≡ false → int_eq c.offset (pos 0) ≡ true → count_of (first_byte desc c) ≡ 0
 first_of desc c order at =
     ap count_of (cond-false (desc.be && is_narrow c) (c.offset +ℤ pos 1) c.offset (and_left desc.be (is_narrow c) order)) ∙ ap count_of ((Decides-int_eq c.offset (pos 0)).0 at)
@@ -74,7 +77,7 @@ is_byte_format desc valid palette =
       first = first_of desc c order p2.1;
       shift = shift;
       depth = depth;
-      read = ap (λ s. if nat_le (s + c.depth) 8 then 1 else 2) shift ∙ ap (λ d. if nat_le (0 + d) 8 then 1 else 2) depth;
+      read = read_of c shift depth;
     }
 
 byte_whole : (n : ℕ) → n < 256 → (n + 256 * 0) / 2 ^ 0 % 2 ^ 8 ≡ n
@@ -138,7 +141,7 @@ module _ (desc : Desc) (frame : List ℕ) (place : Place) (valid : IsValid desc)
       ∙ ap (entry_component place.width place.rows frame index) (sym (component_is c below))
       ∙ sym (cond-true desc.palette (entry_component place.width place.rows frame index (component_at desc c)) (frame_component desc place.width place.rows frame (component_at desc c) place.x place.row) palette)
 
-decode_is : (desc : Desc) → desc.palette ≡ true → decode desc ≡ Read U8 (1 ∷ 0 ∷ 0 ∷ 0 ∷ []) true ∷ Clear (missing_codes desc) ∷ []
+pub decode_is : (desc : Desc) → desc.palette ≡ true → decode desc ≡ Read U8 (1 ∷ 0 ∷ 0 ∷ 0 ∷ []) true ∷ Clear (missing_codes desc) ∷ []
 unfolding decode
 decode_is desc palette =
     cond-true desc.palette (Read U8 (1 ∷ 0 ∷ 0 ∷ 0 ∷ []) true ∷ Clear (missing_codes desc) ∷ [])

@@ -145,7 +145,7 @@ module _ (desc : Desc) (frame : List ℕ) (place : Place) (valid : IsValid desc)
         ))
         (λ c missing. sym (code_of-missing desc place.width place.rows frame place.x place.row c missing))
 
-decode_is : (desc : Desc) (splits : List Op) → desc.palette ≡ false → split desc ≡ splits
+pub decode_is : (desc : Desc) (splits : List Op) → desc.palette ≡ false → split desc ≡ splits
     → decode desc ≡ decode_by (element_type desc) (element_counts desc) (is_swapped desc) splits (from_places desc) (missing_codes desc)
 unfolding decode
 decode_is desc splits none are =
@@ -153,14 +153,14 @@ decode_is desc splits none are =
     cond-false desc.palette (Read U8 (1 ∷ 0 ∷ 0 ∷ 0 ∷ []) true ∷ Clear (missing_codes desc) ∷ []) by none
     ∙ ap (λ s. decode_by (element_type desc) (element_counts desc) (is_swapped desc) s (from_places desc) (missing_codes desc)) are
 
-abbrev shifts : Desc → List Op
+abbrev pub shifts : Desc → List Op
 shifts desc =
     LeftShift (bits (element_type desc) - (component_of desc 0).shift - (component_of desc 0).depth) ∷ RightShift (bits (element_type desc) - (component_of desc 0).depth) ∷ []
 
-split_elements : (desc : Desc) → is_elements desc ≡ true → split desc ≡ shifts desc
+pub split_elements : (desc : Desc) → is_elements desc ≡ true → split desc ≡ shifts desc
 split_elements desc elements = cond-true (is_elements desc) (shifts desc) (Unpack (field_widths desc) ∷ []) elements
 
-split_word : (desc : Desc) → is_elements desc ≡ false → split desc ≡ Unpack (field_widths desc) ∷ []
+pub split_word : (desc : Desc) → is_elements desc ≡ false → split desc ≡ Unpack (field_widths desc) ∷ []
 split_word desc word = cond-false (is_elements desc) (shifts desc) (Unpack (field_widths desc) ∷ []) word
 
 pub decode_plain : (desc : Desc) (frame : List ℕ) (place : Place) → IsValid desc → desc.palette ≡ false → All (λ byte. byte < 256) frame

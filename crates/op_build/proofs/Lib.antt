@@ -31,3 +31,7 @@ pub mod EncodeElements
 pub mod EncodePacked
 pub mod EncodeWord
 pub mod Encode
+pub mod DecodeTyped
+pub mod RecipeTyped
+pub mod Layouts
+pub mod FieldSteps

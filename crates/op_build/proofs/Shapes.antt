@@ -148,6 +148,10 @@ word_type_is desc is = ⊎_elim (λ one. has_type_of desc (inl (is.bytes ∙ one
 pub has_type : (desc : Desc) → IsValid desc → HasType desc
 has_type desc valid = ⊎_elim (λ is. element_type_is desc is) (λ is. word_type_is desc is) (has_layout desc valid)
 
+-- an element has a byte
+pub has_size : (desc : Desc) → IsValid desc → 0 < element_bytes desc
+has_size desc valid = ⊎_elim (λ one. omega arith) (λ more. ⊎_elim (λ two. omega arith) (λ four. omega arith) more) (has_type desc valid).size
+
 -- ---- counts and widths
 
 -- the elements of a pixel are one to four, in the first planes

@@ -2,7 +2,11 @@
 ghost use Rattle.std.specs.Prelude.{◌≡◌, ℕ, List};
 ghost use Rattle.pix_desc.specs.declared.desc.Desc.{Desc};
 ghost use Rattle.op_list.specs.declared.place.Place.{Place};
+ghost use Rattle.pix_meaning.specs.declared.pair.Pair.{Pair};
+ghost use Rattle.pix_meaning.specs.Pairs.{IsValidPair};
+ghost use Rattle.op_list.specs.Typing.{IsOpList};
 ghost use Rattle.op_build.specs.Codes.{GivesCodes, IsWholeTyped};
+ghost use Rattle.op_build.specs.Recipe.{recipe};
 
 /// At every pixel of a frame of bytes, the first part of the recipe gives the codes of the channels that are read there.
 pub fn decoding_gives_codes()
@@ -12,4 +16,9 @@ pub fn decoding_gives_codes()
 /// It leaves values of a whole type.
 pub fn decoding_is_whole()
     ensures { (desc : Desc) → IsWholeTyped desc }
+{}
+
+/// The recipe of a valid pair is a list of operations: each may follow those before it, and has good arguments.
+pub fn recipe_is_list()
+    ensures { (pair : Pair) → IsValidPair pair → IsOpList (recipe pair) }
 {}

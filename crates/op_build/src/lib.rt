@@ -4,6 +4,9 @@
 //! codes of its channels, is proved to mean what pix_meaning reads; the list itself is not built yet.
 #![tactic(auto)]
 
+mod elements;
 mod laws;
+mod shape;
+mod word;
 
-pub use laws::{decoding_gives_codes, decoding_is_whole};
+pub use laws::{decoding_gives_codes, decoding_is_whole, recipe_is_list};
