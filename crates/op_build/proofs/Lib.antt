@@ -22,3 +22,4 @@ pub mod DecodeTyped
 pub mod RecipeTyped
 pub mod Layouts
 pub mod FieldSteps
+pub mod SlotPlaces

@@ -6,6 +6,7 @@
 
 mod elements;
 mod laws;
+mod numbers;
 mod shape;
 mod word;
 
