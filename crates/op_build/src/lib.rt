@@ -4,9 +4,11 @@
 //! codes of its channels, is proved to mean what pix_meaning reads; the list itself is not built yet.
 #![tactic(auto)]
 
+mod channel;
 mod elements;
 mod laws;
 mod numbers;
+mod places;
 mod shape;
 mod word;
 
