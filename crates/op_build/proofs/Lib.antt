@@ -23,3 +23,4 @@ pub mod RecipeTyped
 pub mod Layouts
 pub mod FieldSteps
 pub mod SlotPlaces
+pub mod Depths

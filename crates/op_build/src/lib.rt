@@ -7,9 +7,11 @@
 mod channel;
 mod elements;
 mod laws;
+mod limits;
 mod numbers;
 mod places;
 mod shape;
+mod sources;
 mod word;
 
 pub use laws::{decoding_gives_codes, decoding_is_whole, recipe_is_list};
