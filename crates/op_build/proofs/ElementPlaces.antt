@@ -174,7 +174,7 @@ module _ (desc : Desc) (size : ℕ) (laid : IsLaidOut desc) (is : HasElements de
   pub length-slots : length (slots desc) ≡ sum (element_counts desc)
   length-slots = ap length slots_are ∙ length-map-range_with_len (element_slot desc) 0 (sum (element_counts desc))
 
-  slot_at : (i : ℕ) → i < sum (element_counts desc) → get_or (slots desc) i None ≡ element_slot desc i
+  pub slot_at : (i : ℕ) → i < sum (element_counts desc) → get_or (slots desc) i None ≡ element_slot desc i
   slot_at i within =
       ap (λ list. get_or list i None) slots_are ∙ get_or-map-range_with_len (element_slot desc) 0 (sum (element_counts desc)) i i None within (omega arith)
 

@@ -35,3 +35,5 @@ pub mod DecodeTyped
 pub mod RecipeTyped
 pub mod Layouts
 pub mod FieldSteps
+pub mod SlotPlaces
+pub mod Depths

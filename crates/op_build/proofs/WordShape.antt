@@ -126,12 +126,12 @@ pub length-field_widths : (desc : Desc) → length (field_widths desc) ≡ 4
 unfolding field_widths
 length-field_widths desc = refl
 
-width_in : (fs : List Field) (i : ℕ) → (get_or fs i no_field).width ≡ get_or (widths_of fs) i 0
+pub width_in : (fs : List Field) (i : ℕ) → (get_or fs i no_field).width ≡ get_or (widths_of fs) i 0
 width_in [] i = refl
 width_in (f ∷ fs) zero = refl
 width_in (f ∷ fs) (suc i) = width_in fs i
 
-slot_in : (fs : List Field) (i : ℕ) → (get_or fs i no_field).slot ≡ get_or (map (λ field. field.slot) fs) i None
+pub slot_in : (fs : List Field) (i : ℕ) → (get_or fs i no_field).slot ≡ get_or (map (λ field. field.slot) fs) i None
 slot_in [] i = refl
 slot_in (f ∷ fs) zero = refl
 slot_in (f ∷ fs) (suc i) = slot_in fs i
@@ -168,11 +168,11 @@ module _ (desc : Desc) (is : HasWord desc) where
       good_counts (8 * (component_of desc 0).step) (field_widths desc)
       (in_front (width 0) (width 1) (width 2) (width 3) (some_before 0) (some_before 1) (some_before 2)) (omega (arith, sum-widths)) (omega (arith, sum-widths))
 
-  slots_are : slots desc ≡ map (λ field. field.slot) (fields desc)
+  pub slots_are : slots desc ≡ map (λ field. field.slot) (fields desc)
   unfolding slots
   slots_are = cond-false (is_elements desc) (map (element_slot desc) (range_with_len 0 (sum (element_counts desc)))) (map (λ field. field.slot) (fields desc)) is.word
 
-  length-slots : length (slots desc) ≡ length (fields desc)
+  pub length-slots : length (slots desc) ≡ length (fields desc)
   length-slots = ap length slots_are ∙ length-map (fields desc) (λ field. field.slot)
 
   pub word_slots_few : length (slots desc) ≤ 4

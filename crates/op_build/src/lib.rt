@@ -4,9 +4,14 @@
 //! codes of its channels, is proved to mean what pix_meaning reads; the list itself is not built yet.
 #![tactic(auto)]
 
+mod channel;
 mod elements;
 mod laws;
+mod limits;
+mod numbers;
+mod places;
 mod shape;
+mod sources;
 mod word;
 
 pub use laws::{decoding_gives_codes, decoding_is_whole, recipe_is_list};
