@@ -22,3 +22,4 @@ pub mod ConvertLevels
 pub mod ConvertSteps
 pub mod ConvertClamp
 pub mod Convert
+pub mod BoundFractions
