@@ -8,14 +8,16 @@ use Prim.Native.Nat.{◌∣◌}
 use native.Mathlib.Nat.{mul-le-mul, mul-le-mul_left, mul-le-mul_right}
 use Rattle.frac_math.specs.Gcd.{gcd}
 use Rattle.frac_math.specs.LowestTerms.{gcd-is}
-use Rattle.frac_math.specs.Fraction.{ℚ, nat, ◌+ℚ◌, ◌*ℚ◌, min_ℚ, max_ℚ, is_at_most}
+use Rattle.frac_math.specs.Fraction.{ℚ, nat, ◌+ℚ◌, ◌*ℚ◌, min_ℚ, max_ℚ}
 use Rattle.frac_math.specs.Dither.{dither_at}
 use Rattle.frac_math.specs.Checked.{Fits, checked_sum, checked_product}
 use Rattle.frac_math.proofs.Ring.{var, num, ◌⊗◌, ring}
 use Rattle.frac_math.proofs.Integers.{ints_ring}
 use Rattle.frac_math.proofs.FractionRing.{Stands, itself, change, mul_stands, common_add, denominator_least, numerator_least, denominator_positive, product_positive}
 use Rattle.frac_math.proofs.CheckedCalls.{checked_sum_some, checked_product_some}
-use Rattle.op_build.specs.Bounds.{Bound, HasBound, bound, bound_of, is_small, factor, other_factor, reduced_bound, greater_of, sum_bound, product_bound, either_bound, dither_bound}
+use Rattle.frac_math.proofs.FractionOrder.{min_cases, max_cases}
+use Rattle.frac_math.proofs.DitherLaws.{index_number, index_number_below, dither_stands}
+use Rattle.op_build.specs.Bounds.{Bound, HasBound, bound, bound_of, is_small, factor, other_factor, reduced_bound, both_bound, dither_bound}
 
 -- ---- sizes
 fits_of_size : (z : ℤ) (n : ℕ) → unsigned_abs z ≤ n → n < 2 ^ 127 → Fits z
@@ -86,7 +88,7 @@ added x y d m n h k = record {
   most = omega (arith, size_add h.numerator k.numerator, h.most, k.most);
 }
 
-two_small : (a b : ℕ) → (is_small a && is_small b) ≡ true → (a < 2 ^ 127) × (b < 2 ^ 127)
+pub two_small : (a b : ℕ) → (is_small a && is_small b) ≡ true → (a < 2 ^ 127) × (b < 2 ^ 127)
 two_small a b h = let p = and_parts _ _ h in (ltb-true a (2 ^ 127) p.0, ltb-true b (2 ^ 127) p.1)
 
 pub sum_there : (x y : ℚ) (b c : Bound) → HasBound x b → HasBound y c
@@ -104,7 +106,7 @@ sum_there x y b c h k s t =
     })
 
 pub sum_bounded : (x y : ℚ) (b c : Bound) → HasBound x b → HasBound y c
-    → HasBound (x +ℚ y) (bound (b.denominator * factor b.denominator c.denominator) (b.size * factor b.denominator c.denominator + c.size * other_factor b.denominator c.denominator))
+    → HasBound (x +ℚ y) (both_bound b c)
 sum_bounded x y b c h k = added x y _ _ _ (left_raised x y b c h k) (right_raised x y b c h k)
 
 -- ---- a product
@@ -142,3 +144,20 @@ reduced_by x b true e h =
 
 pub reduced : (x : ℚ) (b : Bound) → HasBound x b → HasBound x (reduced_bound b)
 reduced x b h = reduced_by x b (nat_eq b.size 0) (eqb-true b.size 0) h
+
+-- ---- the lesser and the greater
+left_bounded : (x y : ℚ) (b c : Bound) → HasBound x b → HasBound y c → HasBound x (both_bound b c)
+left_bounded x y b c h k = wider x _ _ _ (left_raised x y b c h k) (omega arith)
+
+right_bounded : (x y : ℚ) (b c : Bound) → HasBound x b → HasBound y c → HasBound y (both_bound b c)
+right_bounded x y b c h k = wider y _ _ _ (right_raised x y b c h k) (omega arith)
+
+pub min_bounded : (x y : ℚ) (b c : Bound) → HasBound x b → HasBound y c → HasBound (min_ℚ x y) (both_bound b c)
+min_bounded x y b c h k = min_cases (λ z. HasBound z (both_bound b c)) x y (λ p. left_bounded x y b c h k) (λ p. right_bounded x y b c h k)
+
+pub max_bounded : (x y : ℚ) (b c : Bound) → HasBound x b → HasBound y c → HasBound (max_ℚ x y) (both_bound b c)
+max_bounded x y b c h k = max_cases (λ z. HasBound z (both_bound b c)) x y (λ p. right_bounded x y b c h k) (λ p. left_bounded x y b c h k)
+
+-- ---- the dither
+pub dither_bounded : (k x y : ℕ) → HasBound (dither_at k x y) (dither_bound k)
+dither_bounded k x y = record { numerator = pos (2 * index_number k x y + 1); stands = dither_stands k x y; most = omega (arith, index_number_below k x y) }

@@ -23,3 +23,4 @@ pub mod ConvertSteps
 pub mod ConvertClamp
 pub mod Convert
 pub mod BoundFractions
+pub mod BoundSteps

@@ -51,26 +51,20 @@ other_factor d e = d / gcd d e
 abbrev pub reduced_bound : Bound → Bound
 reduced_bound b = if nat_eq b.size 0 then bound 1 0 else b
 
-abbrev pub greater_of : ℕ → ℕ → ℕ
-greater_of a b = if nat_lt a b then b else a
+-- the sum of the sizes over the least common multiple; it bounds each of two fractions and their sum
+abbrev pub both_bound : Bound → Bound → Bound
+both_bound x y =
+    bound (x.denominator * factor x.denominator y.denominator)
+    (x.size * factor x.denominator y.denominator + y.size * other_factor x.denominator y.denominator)
 
--- over the least common multiple
 unfoldable pub sum_bound : Bound → Bound → Option Bound
 sum_bound x y =
-    if is_small (x.size * y.denominator + y.size * x.denominator) && is_small (x.denominator * y.denominator)
-    then Some (bound (x.denominator * factor x.denominator y.denominator)
-    (x.size * factor x.denominator y.denominator + y.size * other_factor x.denominator y.denominator)) else None
+    if is_small (x.size * y.denominator + y.size * x.denominator) && is_small (x.denominator * y.denominator) then Some (both_bound x y) else None
 
 unfoldable pub product_bound : Bound → Bound → Option Bound
 product_bound x y =
     if is_small (x.size * y.size) && is_small (x.denominator * y.denominator)
     then Some (reduced_bound (bound (x.denominator * y.denominator) (x.size * y.size))) else None
-
--- either of two fractions
-unfoldable pub either_bound : Bound → Bound → Bound
-either_bound x y =
-    bound (x.denominator * factor x.denominator y.denominator)
-    (greater_of (x.size * factor x.denominator y.denominator) (y.size * other_factor x.denominator y.denominator))
 
 -- a value below 1 over 2 * 4 ^ k
 abbrev pub dither_bound : ℕ → Bound
@@ -86,7 +80,7 @@ row_bound row bounds =
 
 abbrev pub limited_bound : Option ℚ → Bound → Bound
 limited_bound None b = b
-limited_bound (Some limit) b = either_bound b (bound_of limit)
+limited_bound (Some limit) b = both_bound b (bound_of limit)
 
 -- the bounds after an operation on fractions, where its numbers are small enough
 unfoldable pub bounds_after : Op → List Bound → Option (List Bound)
