@@ -159,5 +159,13 @@ pub max_bounded : (x y : ℚ) (b c : Bound) → HasBound x b → HasBound y c �
 max_bounded x y b c h k = max_cases (λ z. HasBound z (both_bound b c)) x y (λ p. right_bounded x y b c h k) (λ p. left_bounded x y b c h k)
 
 -- ---- the dither
+dither_itself : (k x y : ℕ) → HasBound (dither_at k x y) (bound (2 * 4 ^ k) (2 * 4 ^ k))
+dither_itself k x y = record { numerator = pos (2 * index_number k x y + 1); stands = dither_stands k x y; most = omega (arith, index_number_below k x y) }
+
 pub dither_bounded : (k x y : ℕ) → HasBound (dither_at k x y) (dither_bound k)
-dither_bounded k x y = record { numerator = pos (2 * index_number k x y + 1); stands = dither_stands k x y; most = omega (arith, index_number_below k x y) }
+dither_bounded zero x y = raised (dither_at 0 x y) 2 2 256 (dither_itself 0 x y) (omega arith)
+dither_bounded (suc zero) x y = raised (dither_at 1 x y) 8 8 64 (dither_itself 1 x y) (omega arith)
+dither_bounded (suc (suc zero)) x y = raised (dither_at 2 x y) 32 32 16 (dither_itself 2 x y) (omega arith)
+dither_bounded (suc (suc (suc zero))) x y = raised (dither_at 3 x y) 128 128 4 (dither_itself 3 x y) (omega arith)
+dither_bounded (suc (suc (suc (suc zero)))) x y = dither_itself 4 x y
+dither_bounded (suc (suc (suc (suc (suc k))))) x y = dither_itself (suc (suc (suc (suc (suc k))))) x y

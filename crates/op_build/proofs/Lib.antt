@@ -24,3 +24,4 @@ pub mod ConvertClamp
 pub mod Convert
 pub mod BoundFractions
 pub mod BoundSteps
+pub mod BoundClasses

@@ -1,5 +1,5 @@
 -- Bounds on the numbers of fractions, and what an operation on four fractions makes of them: none where a number of the checked calls may leave 127 bits.
-use Rattle.std.specs.Prelude.{ℕ, ◌+◌, ◌*◌, ◌/◌, ◌^◌, ◌≤◌, Bool, ◌&&◌, if◌then◌else◌, nat_lt, nat_eq, List, [], ◌∷◌, slice_index_or, Option, Some, None, ℤ, unsigned_abs}
+use Rattle.std.specs.Prelude.{ℕ, suc, ◌+◌, ◌*◌, ◌/◌, ◌^◌, ◌≤◌, Bool, ◌&&◌, if◌then◌else◌, nat_lt, nat_eq, List, [], ◌∷◌, slice_index_or, Option, Some, None, ℤ, unsigned_abs}
 use Rattle.std.specs.Option.{option_and_then}
 use Rattle.frac_math.specs.Gcd.{gcd}
 use Rattle.frac_math.specs.Fraction.{ℚ}
@@ -66,9 +66,10 @@ product_bound x y =
     if is_small (x.size * y.size) && is_small (x.denominator * y.denominator)
     then Some (reduced_bound (bound (x.denominator * y.denominator) (x.size * y.size))) else None
 
--- a value below 1 over 2 * 4 ^ k
+-- a value below 1 over 2 * 4 ^ k, for all k up to 4 over 2 * 4 ^ 4
 abbrev pub dither_bound : ℕ → Bound
-dither_bound k = bound (2 * 4 ^ k) (2 * 4 ^ k)
+dither_bound (suc (suc (suc (suc (suc k))))) = bound (2 * 4 ^ suc (suc (suc (suc (suc k))))) (2 * 4 ^ suc (suc (suc (suc (suc k)))))
+dither_bound k = bound 512 512
 
 abbrev pub term_bound : List ℚ → List Bound → ℕ → Bound → Option Bound
 term_bound row bounds i total = option_and_then (λ term. sum_bound total term) (product_bound (bound_of (fraction_in row i)) (bound_in bounds i))

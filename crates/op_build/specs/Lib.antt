@@ -3,3 +3,4 @@ pub mod Recipe
 pub mod Codes
 pub mod Meaning
 pub mod Bounds
+pub mod BoundClasses
