@@ -37,3 +37,6 @@ pub mod Layouts
 pub mod FieldSteps
 pub mod SlotPlaces
 pub mod Depths
+pub mod BoundFractions
+pub mod BoundSteps
+pub mod BoundClasses
