@@ -40,3 +40,4 @@ pub mod Depths
 pub mod BoundFractions
 pub mod BoundSteps
 pub mod BoundClasses
+pub mod Means

@@ -1,14 +1,16 @@
 -- The list of a pair means its target frame: at each pixel of each frame it gives the elements of the target rows.
-use Rattle.std.specs.Prelude.{◌≡◌, ◌<◌, ℕ, ◌+◌, List, length, All}
+use Rattle.std.specs.Prelude.{◌≡◌, ◌<◌, false, ℕ, ◌+◌, List, length, All}
 use Rattle.pix_desc.specs.Frame.{frame_length}
 use Rattle.pix_desc.specs.declared.desc.Desc.{Desc}
 use Rattle.pix_meaning.specs.declared.pair.Pair.{Pair}
+use Rattle.pix_meaning.specs.Pairs.{IsValidPair}
 use Rattle.pix_meaning.specs.Target.{target_rows}
 use Rattle.op_list.specs.declared.op.Op.{Op}
 use Rattle.op_list.specs.Values.{four}
 use Rattle.op_list.specs.Pixel.{element_of}
 use Rattle.op_list.specs.Run.{run}
 use Rattle.op_build.specs.Shape.{element_type, element_counts}
+use Rattle.op_build.specs.Recipe.{recipe}
 
 -- the elements of a pixel of a frame, and 0 for those that it has not
 abbrev pub elements_at : Desc → List ℕ → ℕ → ℕ → ℕ → ℕ → List ℕ
@@ -21,3 +23,7 @@ MeansTargetRows pair ops =
     (frame : List ℕ) (width rows first x row : ℕ) → All (λ byte. byte < 256) frame → length frame ≡ frame_length pair.from.desc width rows
     → x < width → row < rows
     → run ops frame width rows x row (first + row) ≡ elements_at pair.to.desc (target_rows pair width rows first frame) width rows x row
+
+-- The recipe's list does, for every valid pair whose target has no palette.
+abbrev pub MeansItsTarget : Pair → Type 0
+MeansItsTarget pair = IsValidPair pair → pair.to.desc.palette ≡ false → MeansTargetRows pair (recipe pair)

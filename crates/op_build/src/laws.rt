@@ -5,6 +5,7 @@ ghost use Rattle.op_list.specs.declared.place.Place.{Place};
 ghost use Rattle.pix_meaning.specs.declared.pair.Pair.{Pair};
 ghost use Rattle.pix_meaning.specs.Pairs.{IsValidPair};
 ghost use Rattle.op_list.specs.Typing.{IsOpList};
+ghost use Rattle.op_build.specs.Meaning.{MeansItsTarget};
 ghost use Rattle.op_build.specs.Codes.{GivesCodes, IsWholeTyped};
 ghost use Rattle.op_build.specs.Recipe.{recipe};
 
@@ -21,4 +22,9 @@ pub fn decoding_is_whole()
 /// The recipe of a valid pair is a list of operations: each may follow those before it, and has good arguments.
 pub fn recipe_is_list()
     ensures { (pair : Pair) → IsValidPair pair → IsOpList (recipe pair) }
+{}
+
+/// At every pixel of every source frame, the whole list gives the elements of the target rows.
+pub fn recipe_means_target()
+    ensures { (pair : Pair) → MeansItsTarget pair }
 {}

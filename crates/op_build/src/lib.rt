@@ -14,4 +14,4 @@ mod shape;
 mod sources;
 mod word;
 
-pub use laws::{decoding_gives_codes, decoding_is_whole, recipe_is_list};
+pub use laws::{decoding_gives_codes, decoding_is_whole, recipe_is_list, recipe_means_target};
