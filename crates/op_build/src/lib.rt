@@ -5,6 +5,7 @@
 #![tactic(auto)]
 
 mod channel;
+mod colour;
 mod elements;
 mod laws;
 mod limits;
