@@ -11,6 +11,7 @@ mod laws;
 mod limits;
 mod numbers;
 mod places;
+mod rows;
 mod shape;
 mod sources;
 mod word;
