@@ -1,8 +1,8 @@
 -- The recipe of a valid pair is a list of operations: each may follow those before it and has good arguments, and there are at most 20.
-use Rattle.std.proofs.Common.{◌≡◌, ℕ, zero, suc, ◌+◌, ◌-◌, ◌*◌, ◌^◌, ◌<◌, ◌≤◌, ⊎_elim, Bool, true, false, not, ◌&&◌, ◌||◌, if◌then◌else◌, nat_le, nat_eq, List, [], ◌∷◌, ◌++◌, length, get_or, Option, Some, None, sym, refl, ap, subst, ◌∙◌, arith}
+use Rattle.std.proofs.Common.{◌≡◌, ℕ, ◌+◌, ◌-◌, ◌^◌, ◌<◌, ◌≤◌, ⊎_elim, Bool, true, false, not, ◌&&◌, if◌then◌else◌, nat_eq, List, [], ◌∷◌, ◌++◌, length, get_or, Option, Some, None, sym, refl, ap, subst, ◌∙◌, arith}
 use Rattle.std.specs.Prelude.{nat_lt}
 use Rattle.std.specs.List.{list_all}
-use Rattle.std.proofs.lemmas.Bool.{and_from, and_parts, or_right, cases_Bool, cond_both, cond-true, cond-false, lt-ltb, le-leb, cases_lt}
+use Rattle.std.proofs.lemmas.Bool.{and_from, and_parts, or_right, cond_both, cond-true, cond-false, lt-ltb, le-leb, cases_lt}
 use Rattle.std.proofs.lemmas.List.{get_or_past}
 use Rattle.std.proofs.lemmas.Nat.{pow_pos}
 use Rattle.frac_math.specs.Fraction.{ℚ, nat}
@@ -21,14 +21,13 @@ use Rattle.op_list.specs.declared.types.Stage.{Stage}
 use Rattle.op_list.specs.declared.types.Stage.TheVariants.{Start, Typed, Ended}
 use Rattle.op_list.specs.Types.{bits, is_whole_type, is_wide, is_rational, is_same}
 use Rattle.op_list.specs.Typing.{may_follow, are_good, are_counts, are_typed, all_fit, entry_fits, stage_after, stage_from, IsOpList}
-use Rattle.op_list.specs.Values.{four}
 use Rattle.op_build.specs.Shape.{element_type, element_counts, field_widths, is_swapped, slots}
 use Rattle.op_build.specs.Codes.{decoded_type}
 use Rattle.op_build.specs.Recipe.{decode, convert, encode, recipe, only_if, from_codes, to_codes, to_places, source_of, spare_zero, spare_zeros}
 use Rattle.op_build.proofs.Decode.{decode_stage}
 use Rattle.op_build.proofs.DecodeTyped.{decode_typed}
 use Rattle.op_build.proofs.ElementPlaces.{HasElements}
-use Rattle.op_build.proofs.Shapes.{first_size, has_layout, has_places, HasPlaces, has_type, element_counts_are_good, field_widths_are_good}
+use Rattle.op_build.proofs.Shapes.{first_size, has_layout, has_places, has_type, element_counts_are_good, field_widths_are_good}
 use Rattle.op_build.proofs.WordBits.{number_end}
 use Rattle.op_build.proofs.WordShape.{HasWord}
 

@@ -5,11 +5,13 @@
 #![tactic(auto)]
 
 mod channel;
+mod colour;
 mod elements;
 mod laws;
 mod limits;
 mod numbers;
 mod places;
+mod rows;
 mod shape;
 mod sources;
 mod word;

@@ -1,4 +1,4 @@
-use Rattle.std.proofs.Common.{◌≡◌, ◌∙◌, sym, ap, take}
+use Rattle.std.proofs.Common.{◌∙◌, sym, ap, take}
 use Rattle.std.specs.Prelude.{nat_lt, sum}
 use Rattle.op_build.proofs.SlotPlaces.{element_there, field_there}
 use Rattle.op_build.proofs.numbers.has_slot.Goals as goal

@@ -1,4 +1,4 @@
-use Rattle.std.proofs.Common.{◌≡◌, ◌∙◌, sym, ap, take, arith}
+use Rattle.std.proofs.Common.{◌∙◌, sym, ap, take, arith}
 use Rattle.std.specs.Prelude.{sum}
 use Rattle.op_build.proofs.SlotPlaces.{element_held, none_held, field_held}
 use Rattle.op_build.proofs.numbers.slot_at.Goals as goal

@@ -1,5 +1,5 @@
-use Rattle.std.proofs.Common.{◌≡◌, ℕ, ◌-◌, ◌∙◌, ap, arith}
-use Rattle.op_build.specs.Shape.{Field, field_below}
+use Rattle.std.proofs.Common.{◌-◌, ◌∙◌, ap, arith}
+use Rattle.op_build.specs.Shape.{Field}
 use Rattle.op_build.proofs.FieldSteps.{field_after}
 use Rattle.op_build.proofs.word.+field_from.Goals as goal
 
