@@ -25,3 +25,4 @@ pub mod Convert
 pub mod BoundFractions
 pub mod BoundSteps
 pub mod BoundClasses
+pub mod BoundPairs
