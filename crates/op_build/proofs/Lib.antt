@@ -26,3 +26,4 @@ pub mod BoundFractions
 pub mod BoundSteps
 pub mod BoundClasses
 pub mod BoundPairs
+pub mod BoundRuns
