@@ -27,3 +27,4 @@ pub mod BoundSteps
 pub mod BoundClasses
 pub mod BoundPairs
 pub mod BoundRuns
+pub mod BoundFrames
