@@ -41,3 +41,6 @@ pub mod BoundFractions
 pub mod BoundSteps
 pub mod BoundClasses
 pub mod Means
+pub mod BoundPairs
+pub mod BoundRuns
+pub mod BoundFrames
