@@ -1,11 +1,11 @@
 -- The checked sum and product of fractions with small bounds are there, and what bounds they have.
-use Rattle.std.proofs.Common.{subst, ◌≡◌, ℕ, zero, suc, ◌+◌, ◌*◌, ◌/◌, ◌^◌, ◌<◌, ◌≤◌, Bool, true, false, ◌&&◌, if◌then◌else◌, nat_lt, ltb-true, eqb-true, ℤ, pos, negsuc, ◌+ℤ◌, ◌*ℤ◌, [], ◌∷◌, refl, sym, ◌∙◌, ap, arith}
-use Rattle.std.specs.Prelude.{Option, Some, None, nat_eq, unsigned_abs}
+use Rattle.std.proofs.Common.{subst, ◌≡◌, ℕ, zero, suc, ◌+◌, ◌*◌, ◌/◌, ◌^◌, ◌<◌, ◌≤◌, Bool, true, false, ◌&&◌, if◌then◌else◌, ltb-true, eqb-true, ℤ, pos, negsuc, ◌+ℤ◌, ◌*ℤ◌, [], ◌∷◌, refl, sym, ◌∙◌, ap, arith}
+use Rattle.std.specs.Prelude.{Some, nat_eq, unsigned_abs}
 use Rattle.std.proofs.lemmas.Int.{ints, unsigned_abs-mul}
 use Rattle.std.proofs.Math.Nat.{div-mul_cancel, pos_of_dvd_of_pos, dvd-mul_right}
 use Rattle.std.proofs.lemmas.Bool.{and_parts}
 use Prim.Native.Nat.{◌∣◌}
-use native.Mathlib.Nat.{mul-le-mul, mul-le-mul_left, mul-le-mul_right}
+use native.Mathlib.Nat.{mul-le-mul}
 use Rattle.frac_math.specs.Gcd.{gcd}
 use Rattle.frac_math.specs.LowestTerms.{gcd-is}
 use Rattle.frac_math.specs.Fraction.{ℚ, nat, ◌+ℚ◌, ◌*ℚ◌, min_ℚ, max_ℚ}
@@ -13,7 +13,7 @@ use Rattle.frac_math.specs.Dither.{dither_at}
 use Rattle.frac_math.specs.Checked.{Fits, checked_sum, checked_product}
 use Rattle.frac_math.proofs.Ring.{var, num, ◌⊗◌, ring}
 use Rattle.frac_math.proofs.Integers.{ints_ring}
-use Rattle.frac_math.proofs.FractionRing.{Stands, itself, change, mul_stands, common_add, denominator_least, numerator_least, denominator_positive, product_positive}
+use Rattle.frac_math.proofs.FractionRing.{itself, change, mul_stands, common_add, denominator_least, numerator_least, product_positive}
 use Rattle.frac_math.proofs.CheckedCalls.{checked_sum_some, checked_product_some}
 use Rattle.frac_math.proofs.FractionOrder.{min_cases, max_cases}
 use Rattle.frac_math.proofs.DitherLaws.{index_number, index_number_below, dither_stands}
@@ -97,7 +97,7 @@ sum_there x y b c h k s t =
     let left : unsigned_abs (x.numerator *ℤ pos y.denominator) ≤ b.size * c.denominator = size_mul x.numerator (pos y.denominator) _ _ (numerator_most x b h) (denominator_most y c k) in
     let right : unsigned_abs (y.numerator *ℤ pos x.denominator) ≤ c.size * b.denominator = size_mul y.numerator (pos x.denominator) _ _ (numerator_most y c k) (denominator_most x b h) in
     let sum : unsigned_abs (x.numerator *ℤ pos y.denominator +ℤ y.numerator *ℤ pos x.denominator) ≤ b.size * c.denominator + c.size * b.denominator =
-        omega (arith, size_add (x.numerator *ℤ pos y.denominator) (y.numerator *ℤ pos x.denominator), left, right) in
+    omega (arith, size_add (x.numerator *ℤ pos y.denominator) (y.numerator *ℤ pos x.denominator), left, right) in
     checked_sum_some x y (record {
       left = fits_of_size (x.numerator *ℤ pos y.denominator) _ left (omega (arith, s));
       right = fits_of_size (y.numerator *ℤ pos x.denominator) _ right (omega (arith, s));

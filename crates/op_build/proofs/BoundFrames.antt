@@ -1,6 +1,6 @@
 -- At each pixel of a frame the checked run of the list of a pair whose sides are of the classes is the exact one.
-use Rattle.std.proofs.Common.{◌≡◌, ⊎_elim, ℕ, zero, suc, ◌+◌, ◌*◌, ◌-◌, ◌^◌, ◌<◌, ◌≤◌, Bool, true, false, if◌then◌else◌, nat_eq, List, refl, sym, ◌∙◌, ap, subst, arith}
-use Rattle.std.specs.Prelude.{Option, Some, All}
+use Rattle.std.proofs.Common.{◌≡◌, ⊎_elim, ℕ, zero, suc, ◌-◌, ◌^◌, ◌<◌, ◌≤◌, true, false, if◌then◌else◌, nat_eq, List, sym, ap, subst, arith}
+use Rattle.std.specs.Prelude.{Some, All}
 use Rattle.std.specs.Option.{option_map}
 use Rattle.std.proofs.lemmas.Bool.{cases_Bool, cond-true, cond-false}
 use Rattle.std.proofs.lemmas.Nat.{pow_pos}
@@ -15,6 +15,7 @@ use Rattle.pix_meaning.proofs.PixelLaws.{source_below}
 use Rattle.op_list.specs.declared.place.Place.{Place}
 use Rattle.op_list.specs.Values.{four, number}
 use Rattle.op_list.specs.Run.{run, checked_run}
+use Rattle.op_build.specs.Meaning.{CheckedIsThere}
 use Rattle.op_build.specs.Recipe.{channel_depth, missing_code, recipe}
 use Rattle.op_build.specs.Codes.{code_of}
 use Rattle.op_build.specs.BoundClasses.{side_class, side_classes, IsOneOf}
@@ -39,8 +40,8 @@ half_below (suc d) h =
 missing_below : (desc : Desc) (c : ℕ) → IsValid desc → missing_code desc c < 2 ^ depth_of desc 0
 missing_below desc c valid =
     elim (nat_eq c 3) as (λ b. (if b then 2 ^ depth_of desc 0 - 1 else 2 ^ (depth_of desc 0 - 1)) < 2 ^ depth_of desc 0) [
-      true ↦ omega (arith, pow_pos (depth_of desc 0))
-    | false ↦ half_below (depth_of desc 0) (first_has_bits desc valid)
+      | true ↦ omega (arith, pow_pos (depth_of desc 0))
+      | false ↦ half_below (depth_of desc 0) (first_has_bits desc valid)
     ]
 
 -- the code of a channel fits its depth
@@ -65,3 +66,6 @@ checked_run_is_there pair frame width rows x row y valid from to bytes =
     ap (λ o. option_map (λ values. four (λ i. number values i)) o)
     (recipe_is_there pair frame place (code_of pair.from.desc width rows frame x row) from to valid.dither (decode_gives pair.from.desc frame place valid.from bytes)
     (λ c listed. code_below pair.from.desc width rows frame x row c valid.from bytes))
+
+pub checked_is_there : (pair : Pair) → CheckedIsThere pair
+checked_is_there pair = λ valid from to frame width rows x row y bytes. checked_run_is_there pair frame width rows x row y valid from to bytes

@@ -1,6 +1,6 @@
 -- The checked conversion of a pair whose sides are of the classes is there, and is the exact one.
-use Rattle.std.proofs.Common.{◌≡◌, ⊎_elim, inl, inr, ℕ, zero, suc, ◌-◌, ◌^◌, ◌<◌, ◌≤◌, Bool, true, false, not, if◌then◌else◌, List, [], ◌∷◌, ◌++◌, refl, sym, ◌∙◌, ap, subst, arith}
-use Rattle.std.specs.Prelude.{◌⊎◌, Option, Some, None, slice_index}
+use Rattle.std.proofs.Common.{◌≡◌, inl, inr, ℕ, zero, suc, ◌-◌, ◌^◌, ◌<◌, ◌≤◌, Bool, true, false, not, if◌then◌else◌, List, [], ◌∷◌, ◌++◌, refl, sym, ◌∙◌, ap, subst, arith}
+use Rattle.std.specs.Prelude.{Option, Some, None, slice_index}
 use Rattle.std.specs.Option.{option_and_then}
 use Rattle.std.proofs.lemmas.Option.{same_Some, option_and_then_some}
 use Rattle.frac_math.specs.Fraction.{ℚ, nat}
@@ -23,10 +23,10 @@ use Rattle.op_list.specs.Apply.{apply}
 use Rattle.op_list.specs.Checked.{checked_apply}
 use Rattle.op_list.specs.Run.{run_from, checked_run_from}
 use Rattle.op_build.specs.Recipe.{only_if, over_three, channel_depth, from_codes, to_codes, is_plain, limits, convert}
-use Rattle.op_build.specs.Bounds.{Bound, HasBound, HaveBounds, bound, bound_in, limited_bound, bounds_after, bounds_from}
+use Rattle.op_build.specs.Bounds.{Bound, HaveBounds, bound_in, limited_bound, bounds_after, bounds_from}
 use Rattle.op_build.specs.BoundClasses.{SideClass, side_class_of, side_class, from_class, to_class, source_ops, target_rows_ops, code_bounds, is_there, test_then, every, target_fits, source_fits, side_classes, IsOneOf}
 use Rattle.op_build.proofs.BoundFractions.{nat_bound}
-use Rattle.op_build.proofs.BoundSteps.{AreThere, of_four, run_there}
+use Rattle.op_build.proofs.BoundSteps.{of_four, run_there}
 use Rattle.op_build.proofs.BoundClasses.{classes_fit}
 
 -- ---- what a true test gives

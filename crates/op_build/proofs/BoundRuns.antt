@@ -1,5 +1,5 @@
 -- The checked run of the whole list of a pair whose sides are of the classes is there, and is the exact one.
-use Rattle.std.proofs.Common.{◌≡◌, ℕ, ◌-◌, ◌^◌, ◌<◌, ◌≤◌, Bool, true, false, ◌&&◌, if◌then◌else◌, List, [], ◌∷◌, ◌++◌, refl, sym, ◌∙◌, ap, subst}
+use Rattle.std.proofs.Common.{◌≡◌, ℕ, ◌-◌, ◌^◌, ◌<◌, ◌≤◌, Bool, true, false, if◌then◌else◌, List, [], ◌∷◌, ◌++◌, refl, sym, ◌∙◌, ap, subst}
 use Rattle.std.specs.Prelude.{Option, Some}
 use Rattle.std.specs.Option.{option_and_then}
 use Rattle.pix_desc.specs.declared.desc.Desc.{Desc}
@@ -25,7 +25,7 @@ use Rattle.op_list.specs.Run.{run_from, checked_run_from}
 use Rattle.op_build.specs.Shape.{element_type, element_counts, is_swapped, field_widths}
 use Rattle.op_build.specs.Recipe.{only_if, channel_depth, from_places, missing_codes, to_places, spare_zeros, decode, convert, encode, recipe}
 use Rattle.op_build.specs.BoundClasses.{side_class, side_classes, IsOneOf}
-use Rattle.op_build.proofs.Runs.{run_from-append, stage_from-append}
+use Rattle.op_build.proofs.Runs.{run_from-append}
 use Rattle.op_build.proofs.BoundPairs.{converting_is_there}
 
 -- ---- operations without sums and products of fractions
@@ -132,8 +132,8 @@ recipe_is_there pair frame place code from to k gives h =
     let stage = stage_from Start d in
     let values = run_from frame place Start d no_values in
     let converts : checked_run_from frame place stage c values ≡ Some (run_from frame place stage c values) =
-        subst (λ (v : Values). checked_run_from frame place stage c v ≡ Some (run_from frame place stage c v)) (sym gives) (converting_is_there pair frame place stage code from to k h) in
+    subst (λ (v : Values). checked_run_from frame place stage c v ≡ Some (run_from frame place stage c v)) (sym gives) (converting_is_there pair frame place stage code from to k h) in
     let rest : checked_run_from frame place stage (c ++ e) values ≡ Some (run_from frame place stage (c ++ e) values) =
-        append_exact frame place stage c e values converts (unchecked_run frame place (stage_from stage c) e (run_from frame place stage c values) (encode_unchecked pair.to.desc)) in
+    append_exact frame place stage c e values converts (unchecked_run frame place (stage_from stage c) e (run_from frame place stage c values) (encode_unchecked pair.to.desc)) in
     subst (λ (ops : List Op). checked_run_from frame place Start ops no_values ≡ Some (run_from frame place Start ops no_values)) (sym (recipe_parts pair))
     (append_exact frame place Start d (c ++ e) no_values (unchecked_run frame place Start d no_values (decode_unchecked pair.from.desc)) rest)

@@ -1,8 +1,7 @@
 -- Where the bounds after the operations are there, the checked operations have the exact answers, within these bounds.
-use Rattle.std.proofs.Common.{◌≡◌, ℕ, zero, suc, ◌+◌, ◌*◌, ◌^◌, ◌<◌, Bool, true, false, ◌&&◌, if◌then◌else◌, ltb-true, List, [], ◌∷◌, refl, sym, ◌∙◌, ap, subst, arith}
-use Rattle.std.specs.Prelude.{Option, Some, None, slice_index_or}
+use Rattle.std.proofs.Common.{◌≡◌, ℕ, zero, suc, ◌*◌, Bool, true, if◌then◌else◌, List, [], ◌∷◌, refl, ◌∙◌, ap, subst}
+use Rattle.std.specs.Prelude.{Option, Some, None}
 use Rattle.std.specs.Option.{option_map, option_and_then}
-use Rattle.std.proofs.lemmas.Bool.{and_parts}
 use Rattle.std.proofs.lemmas.Option.{same_Some, option_and_then_some, cond_some, none-some}
 use Rattle.frac_math.specs.Fraction.{ℚ, nat, ◌+ℚ◌, ◌*ℚ◌}
 use Rattle.frac_math.specs.Checked.{checked_sum, checked_product}
@@ -18,8 +17,8 @@ use Rattle.op_list.specs.Typing.{stage_after}
 use Rattle.op_list.specs.Apply.{apply, row_of, row_value, product, at_most, at_least}
 use Rattle.op_list.specs.Checked.{checked_apply, checked_row, checked_term}
 use Rattle.op_list.specs.Run.{run_from, checked_run_from}
-use Rattle.op_build.specs.Bounds.{Bound, HasBound, HaveBounds, bound, bound_of, bound_in, is_small, reduced_bound, both_bound, sum_bound, product_bound, term_bound, row_bound, limited_bound, bounds_after, bounds_from, dither_bound}
-use Rattle.op_build.proofs.BoundFractions.{two_small, sum_there, sum_bounded, product_there, product_bounded, reduced, itself_bound, nat_bound, min_bounded, max_bounded, dither_bounded}
+use Rattle.op_build.specs.Bounds.{Bound, HasBound, HaveBounds, bound, bound_of, bound_in, reduced_bound, both_bound, sum_bound, product_bound, term_bound, row_bound, limited_bound, bounds_after, bounds_from, dither_bound}
+use Rattle.op_build.proofs.BoundFractions.{two_small, sum_there, sum_bounded, product_there, product_bounded, reduced, itself_bound, min_bounded, max_bounded, dither_bounded}
 
 -- a checked answer is the exact one, within a bound
 pub record IsThere (answer : Option ℚ) (x : ℚ) (b : Bound) : Type 0 where
@@ -117,8 +116,10 @@ limits_step : (g : ℕ → ℚ) (k : ℕ → Bound) (bounds : List Bound) → ((
     → AreThere (Some (Fractions (four g))) (Fractions (four g)) bounds
 limits_step g k bounds has e = record {
   there = refl;
-  bounded = record { each = subst (λ bs. (i : ℕ) → HasBound (fraction_in (four g) i) (bound_in bs i)) (same_Some (four k) bounds e)
-      (of_four g (k 0) (k 1) (k 2) (k 3) (has 0) (has 1) (has 2) (has 3)) };
+  bounded = record {
+    each = subst (λ bs. (i : ℕ) → HasBound (fraction_in (four g) i) (bound_in bs i)) (same_Some (four k) bounds e)
+        (of_four g (k 0) (k 1) (k 2) (k 3) (has 0) (has 1) (has 2) (has 3));
+  };
 }
 
 -- ---- an operation

@@ -1,5 +1,5 @@
 -- The list of a valid pair means the target rows: decoding, conversion and encoding, one behind the other.
-use Rattle.std.proofs.Common.{◌≡◌, ◌<◌, ◌^◌, ℕ, ◌+◌, false, if◌then◌else◌, List, ◌++◌, All, length, refl, sym, ◌∙◌, ap, subst}
+use Rattle.std.proofs.Common.{◌≡◌, ◌<◌, ◌^◌, ℕ, ◌+◌, false, if◌then◌else◌, List, ◌++◌, All, refl, ◌∙◌, ap, subst}
 use Rattle.pix_desc.specs.Component.{component_of}
 use Rattle.pix_desc.specs.Frame.{frame_of, FitDepths}
 use Rattle.pix_meaning.specs.declared.pair.Pair.{Pair}
@@ -8,19 +8,16 @@ use Rattle.pix_meaning.specs.Target.{result_of, target_rows}
 use Rattle.pix_meaning.proofs.TargetLaws.{result_below}
 use Rattle.op_list.specs.declared.op.Op.{Op}
 use Rattle.op_list.specs.declared.place.Place.{Place}
-use Rattle.op_list.specs.declared.types.Stage.TheVariants.{Start, Typed}
-use Rattle.op_list.specs.declared.types.PixType.TheVariants.{Rat}
-use Rattle.op_list.specs.declared.values.Values.{Values}
+use Rattle.op_list.specs.declared.types.Stage.TheVariants.{Start}
 use Rattle.op_list.specs.declared.values.Values.TheVariants.{Numbers, Fractions}
 use Rattle.op_list.specs.Values.{four, number, no_values}
 use Rattle.op_list.specs.Typing.{stage_from}
 use Rattle.op_list.specs.Run.{run, run_from}
 use Rattle.op_build.specs.Recipe.{decode, convert, encode, recipe}
-use Rattle.op_build.specs.Codes.{code_of}
-use Rattle.op_build.specs.Meaning.{elements_at, MeansTargetRows, MeansItsTarget}
+use Rattle.op_build.specs.Meaning.{elements_at, MeansItsTarget}
 use Rattle.op_build.proofs.Runs.{run_from-append, stage_from-append}
 use Rattle.op_build.proofs.Decode.{decode_gives}
-use Rattle.op_build.proofs.Convert.{ConvertGives, convert_gives, coded}
+use Rattle.op_build.proofs.Convert.{convert_gives, coded}
 use Rattle.op_build.proofs.Encode.{encode_gives}
 
 -- the results fit the depths of a target without a palette

@@ -1,6 +1,6 @@
 -- The test of the bounds over the classes of sides: what the recipe takes of a side, for the formats of the table and the five matrices.
 use Rattle.std.specs.Prelude.{◌≡◌, ◌⊎◌, ℕ, zero, suc, ◌-◌, ◌^◌, Bool, true, false, not, ◌&&◌, if◌then◌else◌, List, [], ◌∷◌, ◌++◌, Option, Some, None, slice_index}
-use Rattle.frac_math.specs.Fraction.{ℚ, nat, neg_ℚ, ◌/ℚ◌, equal_ℚ}
+use Rattle.frac_math.specs.Fraction.{nat, neg_ℚ, ◌/ℚ◌, equal_ℚ}
 use Rattle.colour_matrix.specs.declared.class.Class.{Class}
 use Rattle.colour_matrix.specs.declared.class.Class.TheVariants.{Direct, Luma, Chroma}
 use Rattle.colour_matrix.specs.declared.class.Range.{Range}

@@ -1,5 +1,5 @@
 -- The list of a pair means its target frame: at each pixel of each frame it gives the elements of the target rows.
-use Rattle.std.specs.Prelude.{◌≡◌, ◌<◌, false, ℕ, ◌+◌, List, length, All}
+use Rattle.std.specs.Prelude.{◌≡◌, ◌<◌, false, Some, ℕ, ◌+◌, List, length, All}
 use Rattle.pix_desc.specs.Frame.{frame_length}
 use Rattle.pix_desc.specs.declared.desc.Desc.{Desc}
 use Rattle.pix_meaning.specs.declared.pair.Pair.{Pair}
@@ -8,9 +8,10 @@ use Rattle.pix_meaning.specs.Target.{target_rows}
 use Rattle.op_list.specs.declared.op.Op.{Op}
 use Rattle.op_list.specs.Values.{four}
 use Rattle.op_list.specs.Pixel.{element_of}
-use Rattle.op_list.specs.Run.{run}
+use Rattle.op_list.specs.Run.{run, checked_run}
 use Rattle.op_build.specs.Shape.{element_type, element_counts}
 use Rattle.op_build.specs.Recipe.{recipe}
+use Rattle.op_build.specs.BoundClasses.{side_class, side_classes, IsOneOf}
 
 -- the elements of a pixel of a frame, and 0 for those that it has not
 abbrev pub elements_at : Desc → List ℕ → ℕ → ℕ → ℕ → ℕ → List ℕ
@@ -27,3 +28,10 @@ MeansTargetRows pair ops =
 -- The recipe's list does, for every valid pair whose target has no palette.
 abbrev pub MeansItsTarget : Pair → Type 0
 MeansItsTarget pair = IsValidPair pair → pair.to.desc.palette ≡ false → MeansTargetRows pair (recipe pair)
+
+-- Where both sides are of the classes that the formats of the table and the named matrices give, no checked step of the list is missing: the checked
+-- evaluation of a pixel is the exact one.
+abbrev pub CheckedIsThere : Pair → Type 0
+CheckedIsThere pair = IsValidPair pair → IsOneOf (side_class pair.from) side_classes → IsOneOf (side_class pair.to) side_classes
+    → (frame : List ℕ) (width rows x row y : ℕ) → All (λ byte. byte < 256) frame
+    → checked_run (recipe pair) frame width rows x row y ≡ Some (run (recipe pair) frame width rows x row y)

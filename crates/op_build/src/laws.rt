@@ -5,7 +5,7 @@ ghost use Rattle.op_list.specs.declared.place.Place.{Place};
 ghost use Rattle.pix_meaning.specs.declared.pair.Pair.{Pair};
 ghost use Rattle.pix_meaning.specs.Pairs.{IsValidPair};
 ghost use Rattle.op_list.specs.Typing.{IsOpList};
-ghost use Rattle.op_build.specs.Meaning.{MeansItsTarget};
+ghost use Rattle.op_build.specs.Meaning.{MeansItsTarget, CheckedIsThere};
 ghost use Rattle.op_build.specs.Codes.{GivesCodes, IsWholeTyped};
 ghost use Rattle.op_build.specs.Recipe.{recipe};
 
@@ -27,4 +27,9 @@ pub fn recipe_is_list()
 /// At every pixel of every source frame, the whole list gives the elements of the target rows.
 pub fn recipe_means_target()
     ensures { (pair : Pair) → MeansItsTarget pair }
+{}
+
+/// Where the sides are of the classes of the table, the checked evaluation of the list has an answer, which is the exact one.
+pub fn checked_recipe_is_exact()
+    ensures { (pair : Pair) → CheckedIsThere pair }
 {}

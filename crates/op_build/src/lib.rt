@@ -1,7 +1,8 @@
 //! The list of operations of a conversion.
 //!
-//! `specs/Recipe` says which list a pair of formats has. So far its first part, from the elements of a source pixel to the
-//! codes of its channels, is proved to mean what pix_meaning reads; the list itself is not built yet.
+//! `specs/Recipe` says which list a pair of formats has. It is proved that this list is well typed, that it means the target
+//! rows at every pixel, and that its checked evaluation always answers for the classes of the table. The functions that
+//! make its parts are here, each with its exact value; the function that puts them together is not written yet.
 #![tactic(auto)]
 
 mod channel;
@@ -16,4 +17,7 @@ mod shape;
 mod sources;
 mod word;
 
-pub use laws::{decoding_gives_codes, decoding_is_whole, recipe_is_list, recipe_means_target};
+pub use laws::{
+    checked_recipe_is_exact, decoding_gives_codes, decoding_is_whole, recipe_is_list,
+    recipe_means_target,
+};
