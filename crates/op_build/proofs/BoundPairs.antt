@@ -1,0 +1,195 @@
+-- The checked conversion of a pair whose sides are of the classes is there, and is the exact one.
+use Rattle.std.proofs.Common.{◌≡◌, inl, inr, ℕ, zero, suc, ◌-◌, ◌^◌, ◌<◌, ◌≤◌, Bool, true, false, not, if◌then◌else◌, List, [], ◌∷◌, ◌++◌, refl, sym, ◌∙◌, ap, subst, arith}
+use Rattle.std.specs.Prelude.{Option, Some, None, slice_index}
+use Rattle.std.specs.Option.{option_and_then}
+use Rattle.std.proofs.lemmas.Option.{same_Some, option_and_then_some}
+use Rattle.frac_math.specs.Fraction.{ℚ, nat}
+use Rattle.colour_matrix.specs.declared.class.Range.{Range}
+use Rattle.colour_matrix.specs.declared.matrix.Matrix.{Matrix}
+use Rattle.colour_matrix.specs.Levels.{levels}
+use Rattle.colour_matrix.specs.Colour.{to_rgb_rows, from_rgb_rows}
+use Rattle.pix_meaning.specs.declared.pair.Side.{Side}
+use Rattle.pix_meaning.specs.declared.pair.Pair.{Pair}
+use Rattle.pix_meaning.specs.Pairs.{is_rgb}
+use Rattle.op_list.specs.declared.types.PixType.TheVariants.{Rat}
+use Rattle.op_list.specs.declared.types.Stage.{Stage}
+use Rattle.op_list.specs.declared.place.Place.{Place}
+use Rattle.op_list.specs.declared.op.Op.{Op}
+use Rattle.op_list.specs.declared.op.Op.TheVariants.{Convert, Linear, Dither, Max, Min}
+use Rattle.op_list.specs.declared.values.Values.TheVariants.{Numbers, Fractions}
+use Rattle.op_list.specs.Values.{four, entry}
+use Rattle.op_list.specs.Typing.{stage_after}
+use Rattle.op_list.specs.Apply.{apply}
+use Rattle.op_list.specs.Checked.{checked_apply}
+use Rattle.op_list.specs.Run.{run_from, checked_run_from}
+use Rattle.op_build.specs.Recipe.{only_if, over_three, channel_depth, from_codes, to_codes, is_plain, limits, convert}
+use Rattle.op_build.specs.Bounds.{Bound, HaveBounds, bound_in, limited_bound, bounds_after, bounds_from}
+use Rattle.op_build.specs.BoundClasses.{SideClass, side_class_of, side_class, from_class, to_class, source_ops, target_rows_ops, code_bounds, is_there, test_then, every, target_fits, source_fits, side_classes, IsOneOf}
+use Rattle.op_build.proofs.BoundFractions.{nat_bound}
+use Rattle.op_build.proofs.BoundSteps.{of_four, run_there}
+use Rattle.op_build.proofs.BoundClasses.{classes_fit}
+
+-- ---- what a true test gives
+every_one : {A : Type 0} (f : A → Bool) (xs : List A) (x : A) → every f xs ≡ true → IsOneOf x xs → f x ≡ true
+every_one f [] x h p = absurd p
+every_one f (y ∷ ys) x h (inl e) = ap f e ∙ first_true (f y) (every f ys) h
+  where
+    first_true : (a b : Bool) → (if a then b else false) ≡ true → a ≡ true
+    first_true true b h = refl
+    first_true false b h = h
+every_one f (y ∷ ys) x h (inr p) = every_one f ys x (second_true (f y) (every f ys) h) p
+  where
+    second_true : (a b : Bool) → (if a then b else false) ≡ true → b ≡ true
+    second_true true b h = h
+    second_true false b h = absurd (cc)
+
+then_there : {A P : Type 0} (o : Option A) (f : A → Bool) → test_then o f ≡ true → ((x : A) → o ≡ Some x → f x ≡ true → P) → P
+then_there None f h use_it = absurd (cc)
+then_there (Some x) f h use_it = use_it x refl h
+
+there_some : {A P : Type 0} (o : Option A) → is_there o ≡ true → ((x : A) → o ≡ Some x → P) → P
+there_some None h use_it = absurd (cc)
+there_some (Some x) h use_it = use_it x refl
+
+-- ---- one list after the other
+append_there : (first second : List Op) (bounds middle last : List Bound) → bounds_from first bounds ≡ Some middle → bounds_from second middle ≡ Some last
+    → bounds_from (first ++ second) bounds ≡ Some last
+unfolding bounds_from
+append_there [] second bounds middle last p q = subst (λ (b : List Bound). bounds_from second b ≡ Some last) (sym (same_Some bounds middle p)) q
+append_there (op ∷ first) second bounds middle last p q =
+    option_and_then_some _ (bounds_after op bounds) middle p
+    (λ next is rest. ap (λ o. option_and_then (λ next. bounds_from (first ++ second) next) o) is ∙ append_there first second next middle last rest q)
+
+-- ---- the end of the list, for each size of dither
+dither_after : (k : ℕ) (bounds : List Bound) → k ≤ 4 → bounds_after (Dither k) bounds ≡ bounds_after (Dither 4) bounds
+unfolding bounds_after
+dither_after zero bounds h = refl
+dither_after (suc zero) bounds h = refl
+dither_after (suc (suc zero)) bounds h = refl
+dither_after (suc (suc (suc zero))) bounds h = refl
+dither_after (suc (suc (suc (suc zero)))) bounds h = refl
+dither_after (suc (suc (suc (suc (suc k))))) bounds h = absurd (omega (arith, h))
+
+abbrev limited_after : List (Option ℚ) → List (Option ℚ) → List Bound → List Bound
+limited_after greatest least bounds =
+    let lower = four (λ i. limited_bound (entry greatest i) (bound_in bounds i)) in
+    four (λ i. limited_bound (entry least i) (bound_in lower i))
+
+limits_there : (greatest least : List (Option ℚ)) (bounds : List Bound) → bounds_from (Max greatest ∷ Min least ∷ []) bounds ≡ Some (limited_after greatest least bounds)
+unfolding bounds_from bounds_after
+limits_there greatest least bounds = refl
+
+step_there : (op : Op) (ops : List Op) (bounds next : List Bound) → bounds_after op bounds ≡ Some next → bounds_from (op ∷ ops) bounds ≡ bounds_from ops next
+unfolding bounds_from
+step_there op ops bounds next h = ap (λ o. option_and_then (λ next. bounds_from ops next) o) h
+
+end_there : (op : Op) (k : ℕ) (greatest least : List (Option ℚ)) (bounds codes last : List Bound) → k ≤ 4 → bounds_after op bounds ≡ Some codes
+    → bounds_after (Dither 4) codes ≡ Some last → bounds_from (op ∷ Dither k ∷ Max greatest ∷ Min least ∷ []) bounds ≡ Some (limited_after greatest least last)
+end_there op k greatest least bounds codes last h p q =
+    step_there op (Dither k ∷ Max greatest ∷ Min least ∷ []) bounds codes p
+    ∙ step_there (Dither k) (Max greatest ∷ Min least ∷ []) codes last (dither_after k codes h ∙ q)
+    ∙ limits_there greatest least last
+
+-- ---- the list of two classes
+abbrev class_list : SideClass → SideClass → ℕ → List (Option ℚ) → List (Option ℚ) → List Op
+class_list from to k greatest least = source_ops from ++ (target_rows_ops to ++ to_class to ∷ Dither k ∷ Max greatest ∷ Min least ∷ [])
+
+target_there : (bounds : List Bound) (to : SideClass) (k : ℕ) (greatest least : List (Option ℚ)) (P : Type 0) → k ≤ 4 → target_fits bounds to ≡ true
+    → ((last : List Bound) → bounds_from (target_rows_ops to ++ to_class to ∷ Dither k ∷ Max greatest ∷ Min least ∷ []) bounds ≡ Some last → P) → P
+unfolding target_fits
+target_there bounds to k greatest least P h t use_it =
+    then_there (bounds_from (target_rows_ops to) bounds) _ t (λ values is_values t2.
+    then_there (bounds_after (to_class to) values) _ t2 (λ codes is_codes t3.
+    there_some (bounds_after (Dither 4) codes) t3 (λ last is_last.
+    use_it (limited_after greatest least last) (append_there (target_rows_ops to) (to_class to ∷ Dither k ∷ Max greatest ∷ Min least ∷ []) bounds values (limited_after greatest least last) is_values
+    (end_there (to_class to) k greatest least values codes last h is_codes is_last)))))
+
+classes_there : (from to : SideClass) (k : ℕ) (greatest least : List (Option ℚ)) (P : Type 0) → k ≤ 4 → IsOneOf from side_classes → IsOneOf to side_classes
+    → ((last : List Bound) → bounds_from (class_list from to k greatest least) (code_bounds (slice_index from.depths)) ≡ Some last → P) → P
+unfolding source_fits
+classes_there from to k greatest least P h f t use_it =
+    then_there (bounds_from (source_ops from) (code_bounds (slice_index from.depths))) (λ bounds. every (target_fits bounds) side_classes)
+    (every_one (source_fits side_classes) side_classes from classes_fit f) (λ bounds is fits.
+    target_there bounds to k greatest least P h (every_one (target_fits bounds) side_classes to fits t) (λ last rest.
+    use_it last (append_there (source_ops from) _ _ bounds last is rest)))
+
+-- ---- the list of a pair is that of its classes
+abbrev raw_class : Side → SideClass
+raw_class side = record { rgb = is_rgb side.desc; depths = four (λ c. channel_depth side.desc c); range = side.range; matrix = side.matrix }
+
+source_same : (rgb : Bool) (depths : List ℕ) (range : Range) (matrix : Matrix)
+    → source_ops (record { rgb = rgb; depths = depths; range = range; matrix = matrix }) ≡ source_ops (side_class_of rgb depths range matrix)
+unfolding levels
+source_same true depths range matrix = refl
+source_same false depths range matrix = refl
+
+target_same : (rgb : Bool) (depths : List ℕ) (range : Range) (matrix : Matrix) (ops : List Op)
+    → let raw : SideClass = record { rgb = rgb; depths = depths; range = range; matrix = matrix } in let k = side_class_of rgb depths range matrix in
+    (target_rows_ops raw ++ to_class raw ∷ ops) ≡ (target_rows_ops k ++ to_class k ∷ ops)
+unfolding levels
+target_same true depths range matrix ops = refl
+target_same false depths range matrix ops = refl
+
+abbrev least_limits : Pair → List (Option ℚ)
+least_limits pair = limits pair.to.desc (λ c. nat 0)
+
+abbrev greatest_limits : Pair → List (Option ℚ)
+greatest_limits pair = limits pair.to.desc (λ c. nat (2 ^ channel_depth pair.to.desc c - 1))
+
+from_raw : (side : Side) → from_codes side ≡ from_class (raw_class side)
+unfolding from_codes is_plain
+from_raw side = refl
+
+to_raw : (side : Side) → to_codes side ≡ to_class (raw_class side)
+unfolding to_codes is_plain
+to_raw side = refl
+
+in_parts : (a b : Bool) (first x y last : Op) (tail : List Op)
+    → (Convert Rat Bool.false ∷ first ∷ only_if a x ++ only_if b y ++ last ∷ tail) ≡ (Convert Rat Bool.false ∷ ((first ∷ only_if a x) ++ (only_if b y ++ last ∷ tail)))
+in_parts true true first x y last tail = refl
+in_parts true false first x y last tail = refl
+in_parts false true first x y last tail = refl
+in_parts false false first x y last tail = refl
+
+convert_raw : (pair : Pair) → convert pair ≡ Convert Rat Bool.false ∷ class_list (raw_class pair.from) (raw_class pair.to) pair.dither (least_limits pair) (greatest_limits pair)
+unfolding convert
+convert_raw pair =
+    let tail = Dither pair.dither ∷ Max (least_limits pair) ∷ Min (greatest_limits pair) ∷ [] in
+    let to_rows = Linear (over_three (to_rgb_rows pair.from.matrix)) in
+    let from_rows = Linear (over_three (from_rgb_rows pair.to.matrix)) in
+    in_parts (not (is_rgb pair.from.desc)) (not (is_rgb pair.to.desc)) (from_codes pair.from) to_rows from_rows (to_codes pair.to) tail
+    ∙ ap (λ op. Convert Rat Bool.false ∷ ((op ∷ only_if (not (is_rgb pair.from.desc)) to_rows) ++ (target_rows_ops (raw_class pair.to) ++ to_codes pair.to ∷ tail))) (from_raw pair.from)
+    ∙ ap (λ op. Convert Rat Bool.false ∷ (source_ops (raw_class pair.from) ++ (target_rows_ops (raw_class pair.to) ++ op ∷ tail))) (to_raw pair.to)
+
+convert_classes : (pair : Pair) → convert pair ≡ Convert Rat Bool.false ∷ class_list (side_class pair.from) (side_class pair.to) pair.dither (least_limits pair) (greatest_limits pair)
+convert_classes pair =
+    let tail = Dither pair.dither ∷ Max (least_limits pair) ∷ Min (greatest_limits pair) ∷ [] in
+    convert_raw pair
+    ∙ ap (λ ops. Convert Rat Bool.false ∷ ops)
+    (ap (λ ops. ops ++ (target_rows_ops (raw_class pair.to) ++ to_class (raw_class pair.to) ∷ tail)) (source_same (is_rgb pair.from.desc) (four (λ c. channel_depth pair.from.desc c)) pair.from.range pair.from.matrix)
+    ∙ ap (λ ops. source_ops (side_class pair.from) ++ ops) (target_same (is_rgb pair.to.desc) (four (λ c. channel_depth pair.to.desc c)) pair.to.range pair.to.matrix tail))
+
+-- ---- from the codes
+codes_bounded : (code depth : ℕ → ℕ) → ((c : ℕ) → c < 4 → code c < 2 ^ depth c) → HaveBounds (Fractions (four (λ c. nat (code c)))) (code_bounds depth)
+codes_bounded code depth h = record {
+  each = of_four (λ c. nat (code c)) _ _ _ _
+      (nat_bound (code 0) (2 ^ depth 0 - 1) (omega (arith, h 0 (omega arith)))) (nat_bound (code 1) (2 ^ depth 1 - 1) (omega (arith, h 1 (omega arith))))
+      (nat_bound (code 2) (2 ^ depth 2 - 1) (omega (arith, h 2 (omega arith)))) (nat_bound (code 3) (2 ^ depth 3 - 1) (omega (arith, h 3 (omega arith))));
+}
+
+converted_there : (frame : List ℕ) (place : Place) (stage : Stage) (ops : List Op) (code depth : ℕ → ℕ) (last : List Bound) → ((c : ℕ) → c < 4 → code c < 2 ^ depth c)
+    → bounds_from ops (code_bounds depth) ≡ Some last
+    → checked_run_from frame place stage (Convert Rat Bool.false ∷ ops) (Numbers (four code)) ≡ Some (run_from frame place stage (Convert Rat Bool.false ∷ ops) (Numbers (four code)))
+unfolding checked_run_from run_from checked_apply apply
+converted_there frame place stage ops code depth last h is =
+    (run_there frame place (stage_after stage (Convert Rat Bool.false)) ops (Fractions (four (λ c. nat (code c)))) (code_bounds depth) last (codes_bounded code depth h) is).there
+
+-- the checked conversion gives what the exact one gives
+pub converting_is_there : (pair : Pair) (frame : List ℕ) (place : Place) (stage : Stage) (code : ℕ → ℕ)
+    → IsOneOf (side_class pair.from) side_classes → IsOneOf (side_class pair.to) side_classes → pair.dither ≤ 4
+    → ((c : ℕ) → c < 4 → code c < 2 ^ channel_depth pair.from.desc c)
+    → checked_run_from frame place stage (convert pair) (Numbers (four code)) ≡ Some (run_from frame place stage (convert pair) (Numbers (four code)))
+converting_is_there pair frame place stage code from to k h =
+    classes_there (side_class pair.from) (side_class pair.to) pair.dither (least_limits pair) (greatest_limits pair) _ k from to (λ last is.
+    subst (λ (ops : List Op). checked_run_from frame place stage ops (Numbers (four code)) ≡ Some (run_from frame place stage ops (Numbers (four code)))) (sym (convert_classes pair))
+    (converted_there frame place stage _ code (channel_depth pair.from.desc) last h is))

@@ -1,0 +1,229 @@
+-- What each operation of a conversion does to four fractions.
+use Rattle.std.proofs.Common.{◌≡◌, ℕ, ⊎_elim, Bool, true, false, not, if◌then◌else◌, pos, List, [], ◌∷◌, refl, ap, ◌∙◌}
+use Rattle.std.proofs.lemmas.Bool.{cases_Bool, and_parts}
+use Rattle.frac_math.specs.Fraction.{ℚ, nat, ◌*ℚ◌, ◌+ℚ◌, ◌/ℚ◌, inverse, neg_ℚ}
+use Rattle.frac_math.proofs.Ring.{var, num, ◌⊕◌, ◌⊖◌, ◌⊗◌, minus, ring}
+use Rattle.frac_math.proofs.FractionRing.{fractions, equal_is}
+use Rattle.colour_matrix.specs.declared.class.Levels.{Levels}
+use Rattle.colour_matrix.specs.Matrix.{IsMatrix}
+use Rattle.colour_matrix.specs.Levels.{from_code, to_code}
+use Rattle.colour_matrix.specs.Values.{Values, value_at, coefficient, row_at, by_rows}
+use Rattle.colour_matrix.specs.Colour.{to_rgb, from_rgb, to_rgb_rows, from_rgb_rows}
+use Rattle.colour_matrix.proofs.ColourRows.{by_rows-to_rgb_rows, by_rows-from_rgb_rows}
+use Rattle.pix_meaning.specs.declared.pair.Side.{Side}
+use Rattle.pix_meaning.specs.Pairs.{is_rgb}
+use Rattle.pix_meaning.specs.Values.{rgb_values, target_values}
+use Rattle.op_list.specs.declared.op.Op.{Op}
+use Rattle.op_list.specs.declared.op.Op.TheVariants.{Linear, Scale}
+use Rattle.op_list.specs.declared.place.Place.{Place}
+use Rattle.op_list.specs.declared.types.Stage.{Stage}
+use Rattle.op_list.specs.declared.values.Values.TheVariants.{Fractions}
+use Rattle.op_list.specs.Values.{four}
+use Rattle.op_list.specs.Apply.{apply}
+use Rattle.op_list.specs.Run.{run_from}
+use Rattle.op_list.specs.Typing.{stage_after, stage_from}
+use Rattle.op_build.specs.Recipe.{only_if, channel_levels, is_plain, diagonal, over_three, from_codes, to_codes}
+
+pub same_fractions : (a b c d e f g h : ℚ) → a ≡ e → b ≡ f → c ≡ g → d ≡ h → Fractions (a ∷ b ∷ c ∷ d ∷ []) ≡ Fractions (e ∷ f ∷ g ∷ h ∷ [])
+same_fractions a b c d e f g h p q r s = λ i. Fractions (p i ∷ q i ∷ r i ∷ s i ∷ [])
+
+-- ---- rows with one coefficient
+
+row_0 : (s k a b c d : ℚ) → k +ℚ s *ℚ a +ℚ nat 0 *ℚ b +ℚ nat 0 *ℚ c +ℚ nat 0 *ℚ d ≡ s *ℚ a +ℚ k
+row_0 s k a b c d =
+    let o = num (pos 0) in
+    ring fractions (s ∷ k ∷ a ∷ b ∷ c ∷ d ∷ []) (var 1 ⊕ var 0 ⊗ var 2 ⊕ o ⊗ var 3 ⊕ o ⊗ var 4 ⊕ o ⊗ var 5) (var 0 ⊗ var 2 ⊕ var 1) refl
+
+row_1 : (s k a b c d : ℚ) → k +ℚ nat 0 *ℚ a +ℚ s *ℚ b +ℚ nat 0 *ℚ c +ℚ nat 0 *ℚ d ≡ s *ℚ b +ℚ k
+row_1 s k a b c d =
+    let o = num (pos 0) in
+    ring fractions (s ∷ k ∷ a ∷ b ∷ c ∷ d ∷ []) (var 1 ⊕ o ⊗ var 2 ⊕ var 0 ⊗ var 3 ⊕ o ⊗ var 4 ⊕ o ⊗ var 5) (var 0 ⊗ var 3 ⊕ var 1) refl
+
+row_2 : (s k a b c d : ℚ) → k +ℚ nat 0 *ℚ a +ℚ nat 0 *ℚ b +ℚ s *ℚ c +ℚ nat 0 *ℚ d ≡ s *ℚ c +ℚ k
+row_2 s k a b c d =
+    let o = num (pos 0) in
+    ring fractions (s ∷ k ∷ a ∷ b ∷ c ∷ d ∷ []) (var 1 ⊕ o ⊗ var 2 ⊕ o ⊗ var 3 ⊕ var 0 ⊗ var 4 ⊕ o ⊗ var 5) (var 0 ⊗ var 4 ⊕ var 1) refl
+
+row_3 : (s k a b c d : ℚ) → k +ℚ nat 0 *ℚ a +ℚ nat 0 *ℚ b +ℚ nat 0 *ℚ c +ℚ s *ℚ d ≡ s *ℚ d +ℚ k
+row_3 s k a b c d =
+    let o = num (pos 0) in
+    ring fractions (s ∷ k ∷ a ∷ b ∷ c ∷ d ∷ []) (var 1 ⊕ o ⊗ var 2 ⊕ o ⊗ var 3 ⊕ o ⊗ var 4 ⊕ var 0 ⊗ var 5) (var 0 ⊗ var 5 ⊕ var 1) refl
+
+diagonal_applied : (frame : List ℕ) (place : Place) (stage : Stage) (scale constant f : ℕ → ℚ)
+    → apply frame place stage (Linear (diagonal scale constant)) (Fractions (four f)) ≡ Fractions (four (λ c. scale c *ℚ f c +ℚ constant c))
+unfolding apply
+diagonal_applied frame place stage scale constant f =
+    same_fractions _ _ _ _ _ _ _ _
+    (row_0 (scale 0) (constant 0) (f 0) (f 1) (f 2) (f 3))
+    (row_1 (scale 1) (constant 1) (f 0) (f 1) (f 2) (f 3))
+    (row_2 (scale 2) (constant 2) (f 0) (f 1) (f 2) (f 3))
+    (row_3 (scale 3) (constant 3) (f 0) (f 1) (f 2) (f 3))
+
+-- ---- levels of one scale without bases
+
+record IsPlain (l : ℕ → Levels) : Type 0 where
+  pub scale1 : (l 1).scale ≡ (l 0).scale
+  pub scale2 : (l 2).scale ≡ (l 0).scale
+  pub scale3 : (l 3).scale ≡ (l 0).scale
+  pub base0 : (l 0).base ≡ nat 0
+  pub base1 : (l 1).base ≡ nat 0
+  pub base2 : (l 2).base ≡ nat 0
+  pub base3 : (l 3).base ≡ nat 0
+
+plain_is : (side : Side) → is_plain side ≡ true → IsPlain (channel_levels side)
+unfolding is_plain
+plain_is side h =
+    let p6 = and_parts _ _ h in let p5 = and_parts _ _ p6.0 in let p4 = and_parts _ _ p5.0 in
+    let p3 = and_parts _ _ p4.0 in let p2 = and_parts _ _ p3.0 in let p1 = and_parts _ _ p2.0 in
+    record {
+      scale1 = equal_is _ _ p1.0;
+      scale2 = equal_is _ _ p1.1;
+      scale3 = equal_is _ _ p2.1;
+      base0 = equal_is _ _ p3.1;
+      base1 = equal_is _ _ p4.1;
+      base2 = equal_is _ _ p5.1;
+      base3 = equal_is _ _ p6.1;
+    }
+
+scaled_from : (l : Levels) (x s : ℚ) → l.scale ≡ s → l.base ≡ nat 0 → x *ℚ (nat 1 /ℚ s) ≡ from_code l x
+unfolding from_code
+scaled_from l x s p q =
+    rw (p, q) (ring fractions (x ∷ inverse s ∷ []) (var 0 ⊗ (num (pos 1) ⊗ var 1)) ((var 0 ⊖ num (pos 0)) ⊗ var 1) refl)
+
+scaled_to : (l : Levels) (e s : ℚ) → l.scale ≡ s → l.base ≡ nat 0 → e *ℚ s ≡ to_code l e
+unfolding to_code
+scaled_to l e s p q = rw (p, q) (ring fractions (e ∷ s ∷ []) (var 0 ⊗ var 1) (var 1 ⊗ var 0 ⊕ num (pos 0)) refl)
+
+linear_from : (l : Levels) (x : ℚ) → nat 1 /ℚ l.scale *ℚ x +ℚ neg_ℚ l.base /ℚ l.scale ≡ from_code l x
+unfolding from_code
+linear_from l x =
+    ring fractions (x ∷ l.base ∷ inverse l.scale ∷ []) (num (pos 1) ⊗ var 2 ⊗ var 0 ⊕ minus (var 1) ⊗ var 2) ((var 0 ⊖ var 1) ⊗ var 2) refl
+
+linear_to : (l : Levels) (e : ℚ) → l.scale *ℚ e +ℚ l.base ≡ to_code l e
+unfolding to_code
+linear_to l e = refl
+
+-- ---- from codes to values, and back, by whichever operation
+
+abbrev from_op : Bool → (ℕ → Levels) → Op
+from_op plain l = if plain then Scale (nat 1 /ℚ (l 0).scale) else Linear (diagonal (λ c. nat 1 /ℚ (l c).scale) (λ c. neg_ℚ (l c).base /ℚ (l c).scale))
+
+abbrev to_op : Bool → (ℕ → Levels) → Op
+to_op plain l = if plain then Scale (l 0).scale else Linear (diagonal (λ c. (l c).scale) (λ c. (l c).base))
+
+from_plain : (frame : List ℕ) (place : Place) (stage : Stage) (l : ℕ → Levels) (f : ℕ → ℚ) → IsPlain l
+    → apply frame place stage (from_op true l) (Fractions (four f)) ≡ Fractions (four (λ c. from_code (l c) (f c)))
+unfolding apply
+from_plain frame place stage l f p =
+    same_fractions _ _ _ _ _ _ _ _
+    (scaled_from (l 0) (f 0) (l 0).scale refl p.base0)
+    (scaled_from (l 1) (f 1) (l 0).scale p.scale1 p.base1)
+    (scaled_from (l 2) (f 2) (l 0).scale p.scale2 p.base2)
+    (scaled_from (l 3) (f 3) (l 0).scale p.scale3 p.base3)
+
+from_linear : (frame : List ℕ) (place : Place) (stage : Stage) (l : ℕ → Levels) (f : ℕ → ℚ)
+    → apply frame place stage (from_op false l) (Fractions (four f)) ≡ Fractions (four (λ c. from_code (l c) (f c)))
+from_linear frame place stage l f =
+    diagonal_applied frame place stage (λ c. nat 1 /ℚ (l c).scale) (λ c. neg_ℚ (l c).base /ℚ (l c).scale) f
+    ∙ same_fractions _ _ _ _ _ _ _ _ (linear_from (l 0) (f 0)) (linear_from (l 1) (f 1)) (linear_from (l 2) (f 2)) (linear_from (l 3) (f 3))
+
+pub from_codes-applied : (frame : List ℕ) (place : Place) (stage : Stage) (side : Side) (f : ℕ → ℚ)
+    → apply frame place stage (from_codes side) (Fractions (four f)) ≡ Fractions (four (λ c. from_code (channel_levels side c) (f c)))
+unfolding from_codes
+from_codes-applied frame place stage side f =
+    ⊎_elim
+    (λ (plain : is_plain side ≡ true).
+    ap (λ b. apply frame place stage (from_op b (channel_levels side)) (Fractions (four f))) plain
+    ∙ from_plain frame place stage (channel_levels side) f (plain_is side plain))
+    (λ (not_plain : is_plain side ≡ false).
+    ap (λ b. apply frame place stage (from_op b (channel_levels side)) (Fractions (four f))) not_plain
+    ∙ from_linear frame place stage (channel_levels side) f)
+    (cases_Bool (is_plain side))
+
+to_plain : (frame : List ℕ) (place : Place) (stage : Stage) (l : ℕ → Levels) (f : ℕ → ℚ) → IsPlain l
+    → apply frame place stage (to_op true l) (Fractions (four f)) ≡ Fractions (four (λ c. to_code (l c) (f c)))
+unfolding apply
+to_plain frame place stage l f p =
+    same_fractions _ _ _ _ _ _ _ _
+    (scaled_to (l 0) (f 0) (l 0).scale refl p.base0)
+    (scaled_to (l 1) (f 1) (l 0).scale p.scale1 p.base1)
+    (scaled_to (l 2) (f 2) (l 0).scale p.scale2 p.base2)
+    (scaled_to (l 3) (f 3) (l 0).scale p.scale3 p.base3)
+
+to_linear : (frame : List ℕ) (place : Place) (stage : Stage) (l : ℕ → Levels) (f : ℕ → ℚ)
+    → apply frame place stage (to_op false l) (Fractions (four f)) ≡ Fractions (four (λ c. to_code (l c) (f c)))
+to_linear frame place stage l f =
+    diagonal_applied frame place stage (λ c. (l c).scale) (λ c. (l c).base) f
+    ∙ same_fractions _ _ _ _ _ _ _ _ (linear_to (l 0) (f 0)) (linear_to (l 1) (f 1)) (linear_to (l 2) (f 2)) (linear_to (l 3) (f 3))
+
+pub to_codes-applied : (frame : List ℕ) (place : Place) (stage : Stage) (side : Side) (f : ℕ → ℚ)
+    → apply frame place stage (to_codes side) (Fractions (four f)) ≡ Fractions (four (λ c. to_code (channel_levels side c) (f c)))
+unfolding to_codes
+to_codes-applied frame place stage side f =
+    ⊎_elim
+    (λ (plain : is_plain side ≡ true).
+    ap (λ b. apply frame place stage (to_op b (channel_levels side)) (Fractions (four f))) plain
+    ∙ to_plain frame place stage (channel_levels side) f (plain_is side plain))
+    (λ (not_plain : is_plain side ≡ false).
+    ap (λ b. apply frame place stage (to_op b (channel_levels side)) (Fractions (four f))) not_plain
+    ∙ to_linear frame place stage (channel_levels side) f)
+    (cases_Bool (is_plain side))
+
+-- ---- neither changes the type
+
+pub from_codes-stage : (stage : Stage) (side : Side) → stage_after stage (from_codes side) ≡ stage
+unfolding from_codes stage_after
+from_codes-stage stage side =
+    elim (is_plain side) as (λ b. stage_after stage (from_op b (channel_levels side)) ≡ stage) [ true ↦ refl | false ↦ refl ]
+
+pub to_codes-stage : (stage : Stage) (side : Side) → stage_after stage (to_codes side) ≡ stage
+unfolding to_codes stage_after
+to_codes-stage stage side =
+    elim (is_plain side) as (λ b. stage_after stage (to_op b (channel_levels side)) ≡ stage) [ true ↦ refl | false ↦ refl ]
+
+-- ---- rows over the first three values
+
+three_of_four : (a b c x y z w : ℚ) → nat 0 +ℚ a *ℚ x +ℚ b *ℚ y +ℚ c *ℚ z +ℚ nat 0 *ℚ w ≡ a *ℚ x +ℚ b *ℚ y +ℚ c *ℚ z
+three_of_four a b c x y z w =
+    let o = num (pos 0) in
+    ring fractions (a ∷ b ∷ c ∷ x ∷ y ∷ z ∷ w ∷ []) (o ⊕ var 0 ⊗ var 3 ⊕ var 1 ⊗ var 4 ⊕ var 2 ⊗ var 5 ⊕ o ⊗ var 6) (var 0 ⊗ var 3 ⊕ var 1 ⊗ var 4 ⊕ var 2 ⊗ var 5) refl
+
+fourth_alone : (x y z w : ℚ) → nat 0 +ℚ nat 0 *ℚ x +ℚ nat 0 *ℚ y +ℚ nat 0 *ℚ z +ℚ nat 1 *ℚ w ≡ w
+fourth_alone x y z w =
+    let o = num (pos 0) in
+    ring fractions (x ∷ y ∷ z ∷ w ∷ []) (o ⊕ o ⊗ var 0 ⊕ o ⊗ var 1 ⊕ o ⊗ var 2 ⊕ num (pos 1) ⊗ var 3) (var 3) refl
+
+pub over_three-applied : (frame : List ℕ) (place : Place) (stage : Stage) (rows : List (List ℚ)) (e : Values)
+    → apply frame place stage (Linear (over_three rows)) (Fractions (four (value_at e))) ≡ Fractions (four (value_at (by_rows rows e)))
+unfolding apply
+over_three-applied frame place stage rows e =
+    let row = λ (i : ℕ).
+    three_of_four (coefficient (row_at rows i) 0) (coefficient (row_at rows i) 1) (coefficient (row_at rows i) 2) e.first e.second e.third e.fourth in
+    same_fractions _ _ _ _ _ _ _ _ (row 0) (row 1) (row 2) (fourth_alone e.first e.second e.third e.fourth)
+
+pub to_rgb-run : (frame : List ℕ) (place : Place) (stage : Stage) (side : Side) (e : Values)
+    → run_from frame place stage (only_if (not (is_rgb side.desc)) (Linear (over_three (to_rgb_rows side.matrix)))) (Fractions (four (value_at e)))
+    ≡ Fractions (four (value_at (rgb_values side e)))
+unfolding run_from rgb_values
+to_rgb-run frame place stage side e =
+    elim (is_rgb side.desc) as (λ b. run_from frame place stage (only_if (not b) (Linear (over_three (to_rgb_rows side.matrix)))) (Fractions (four (value_at e)))
+    ≡ Fractions (four (value_at (if b then e else to_rgb side.matrix e)))) [
+      | true ↦ refl
+      | false ↦ over_three-applied frame place stage (to_rgb_rows side.matrix) e ∙ ap (λ v. Fractions (four (value_at v))) (by_rows-to_rgb_rows side.matrix e)
+    ]
+
+pub from_rgb-run : (frame : List ℕ) (place : Place) (stage : Stage) (side : Side) (e : Values) → IsMatrix side.matrix
+    → run_from frame place stage (only_if (not (is_rgb side.desc)) (Linear (over_three (from_rgb_rows side.matrix)))) (Fractions (four (value_at e)))
+    ≡ Fractions (four (value_at (target_values side e)))
+unfolding run_from target_values
+from_rgb-run frame place stage side e matrix =
+    elim (is_rgb side.desc) as (λ b. run_from frame place stage (only_if (not b) (Linear (over_three (from_rgb_rows side.matrix)))) (Fractions (four (value_at e)))
+    ≡ Fractions (four (value_at (if b then e else from_rgb side.matrix e)))) [
+      | true ↦ refl
+      | false ↦ over_three-applied frame place stage (from_rgb_rows side.matrix) e ∙ ap (λ v. Fractions (four (value_at v))) (by_rows-from_rgb_rows side.matrix e matrix)
+    ]
+
+pub only_if-stage : (stage : Stage) (needed : Bool) (rows : List (List ℚ)) → stage_from stage (only_if needed (Linear rows)) ≡ stage
+unfolding stage_from stage_after
+only_if-stage stage true rows = refl
+only_if-stage stage false rows = refl

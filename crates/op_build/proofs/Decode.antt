@@ -1,0 +1,47 @@
+-- Decoding gives the codes of the channels, and leaves whole numbers.
+use Rattle.std.proofs.Common.{◌≡◌, ◌<◌, ℕ, ⊎_elim, true, List, All, ap, sym, ◌∙◌}
+use Rattle.std.proofs.lemmas.Bool.{cases_Bool, cond-true, cond-false}
+use Rattle.pix_desc.specs.declared.desc.Desc.{Desc}
+use Rattle.pix_desc.specs.Layouts.{IsValid}
+use Rattle.op_list.specs.declared.place.Place.{Place}
+use Rattle.op_list.specs.declared.types.PixType.TheVariants.{U8}
+use Rattle.op_list.specs.declared.types.Stage.TheVariants.{Start, Typed}
+use Rattle.op_list.specs.declared.values.Values.TheVariants.{Numbers}
+use Rattle.op_list.specs.Types.{is_whole_type}
+use Rattle.op_list.specs.Values.{four, no_values}
+use Rattle.op_list.specs.Run.{run_from}
+use Rattle.op_list.specs.Typing.{stage_from}
+use Rattle.op_build.specs.Recipe.{decode}
+use Rattle.op_build.specs.Shape.{element_type}
+use Rattle.op_build.specs.Codes.{code_of, decoded_type, GivesCodes, IsWholeTyped}
+use Rattle.op_build.proofs.DecodePlain.{decode_plain, stage_plain}
+use Rattle.op_build.proofs.DecodePalette.{decode_palette, stage_palette}
+use Rattle.op_build.proofs.Shapes.{has_type}
+
+pub decode_gives : (desc : Desc) (frame : List ℕ) (place : Place) → IsValid desc → All (λ byte. byte < 256) frame
+    → run_from frame place Start (decode desc) no_values ≡ Numbers (four (code_of desc place.width place.rows frame place.x place.row))
+decode_gives desc frame place valid bytes =
+    ⊎_elim
+    (λ palette. decode_palette desc frame place valid palette bytes)
+    (λ none. decode_plain desc frame place valid none bytes)
+    (cases_Bool desc.palette)
+
+pub decode_stage : (desc : Desc) → IsValid desc → stage_from Start (decode desc) ≡ Typed (decoded_type desc)
+decode_stage desc valid =
+    ⊎_elim
+    (λ palette. stage_palette desc palette ∙ ap Typed (sym (cond-true desc.palette U8 (element_type desc) palette)))
+    (λ none. stage_plain desc valid none ∙ ap Typed (sym (cond-false desc.palette U8 (element_type desc) none)))
+    (cases_Bool desc.palette)
+
+pub decoded_type-whole : (desc : Desc) → IsValid desc → is_whole_type (decoded_type desc) ≡ true
+decoded_type-whole desc valid =
+    ⊎_elim
+    (λ palette. ap is_whole_type (cond-true desc.palette U8 (element_type desc) palette))
+    (λ none. ap is_whole_type (cond-false desc.palette U8 (element_type desc) none) ∙ (has_type desc valid).whole)
+    (cases_Bool desc.palette)
+
+pub gives_codes : (desc : Desc) (frame : List ℕ) (place : Place) → GivesCodes desc frame place
+gives_codes desc frame place = λ valid bytes. decode_gives desc frame place valid bytes
+
+pub whole_typed : (desc : Desc) → IsWholeTyped desc
+whole_typed desc = λ valid. record { stage = decode_stage desc valid; whole = decoded_type-whole desc valid }

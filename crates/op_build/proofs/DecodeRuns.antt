@@ -1,0 +1,59 @@
+-- What the operations of a decoding make of a pixel's elements, one after the other.
+use Rattle.std.proofs.Common.{◌≡◌, ℕ, ◌*◌, ◌/◌, ◌%◌, ◌^◌, Bool, true, false, List, [], ◌∷◌, ◌++◌, Option, refl}
+use Rattle.frac_math.specs.Fraction.{ℚ}
+use Rattle.op_list.specs.declared.op.Op.{Op}
+use Rattle.op_list.specs.declared.op.Op.TheVariants.{Read, SwapBytes, Unpack, Clear, LeftShift, RightShift, Swizzle}
+use Rattle.op_list.specs.declared.place.Place.{Place}
+use Rattle.op_list.specs.declared.types.PixType.{PixType}
+use Rattle.op_list.specs.declared.types.PixType.TheVariants.{U8}
+use Rattle.op_list.specs.declared.types.Stage.TheVariants.{Start, Typed}
+use Rattle.op_list.specs.declared.values.Values.TheVariants.{Numbers}
+use Rattle.op_list.specs.Types.{bits, bytes}
+use Rattle.op_list.specs.Values.{four, no_values}
+use Rattle.op_list.specs.Whole.{field}
+use Rattle.op_list.specs.Pixel.{element_of, palette_colours}
+use Rattle.op_list.specs.Apply.{apply, cleared, swizzled}
+use Rattle.op_list.specs.Run.{run_from}
+use Rattle.op_list.specs.Typing.{stage_after, stage_from}
+use Rattle.op_build.specs.Recipe.{only_if}
+use Rattle.op_build.proofs.ByteNumbers.{in_order}
+
+-- elements, and the values behind them
+abbrev pub decode_by : PixType → List ℕ → Bool → List Op → List ℕ → List (Option ℚ) → List Op
+decode_by elem counts swapped splits places entries = Read elem counts false ∷ only_if swapped SwapBytes ++ splits ++ Swizzle places ∷ Clear entries ∷ []
+
+-- element i of a pixel, in the format's byte order
+abbrev pub ordered_element : PixType → List ℕ → Bool → List ℕ → Place → ℕ → ℕ
+ordered_element elem counts swapped frame place i = in_order swapped (bytes elem) (element_of elem counts frame place i)
+
+pub run_shifts : (frame : List ℕ) (place : Place) (elem : PixType) (counts : List ℕ) (swapped : Bool) (up down : ℕ) (places : List ℕ) (entries : List (Option ℚ))
+    → run_from frame place Start (decode_by elem counts swapped (LeftShift up ∷ RightShift down ∷ []) places entries) no_values
+    ≡ cleared entries (swizzled places (Numbers (four (λ i. ordered_element elem counts swapped frame place i * 2 ^ up % 2 ^ bits elem / 2 ^ down))))
+unfolding run_from apply stage_after
+run_shifts frame place elem counts true up down places entries = refl
+run_shifts frame place elem counts false up down places entries = refl
+
+pub run_fields : (frame : List ℕ) (place : Place) (elem : PixType) (counts : List ℕ) (swapped : Bool) (widths : List ℕ) (places : List ℕ) (entries : List (Option ℚ))
+    → run_from frame place Start (decode_by elem counts swapped (Unpack widths ∷ []) places entries) no_values
+    ≡ cleared entries (swizzled places (Numbers (four (λ i. field widths (ordered_element elem counts swapped frame place 0) i))))
+unfolding run_from apply stage_after
+run_fields frame place elem counts true widths places entries = refl
+run_fields frame place elem counts false widths places entries = refl
+
+pub run_palette : (frame : List ℕ) (place : Place) (entries : List (Option ℚ))
+    → run_from frame place Start (Read U8 (1 ∷ 0 ∷ 0 ∷ 0 ∷ []) true ∷ Clear entries ∷ []) no_values ≡ cleared entries (Numbers (palette_colours frame place))
+unfolding run_from apply stage_after
+run_palette frame place entries = refl
+
+-- the values have the type of the elements
+pub stage_shifts : (elem : PixType) (counts : List ℕ) (swapped : Bool) (up down : ℕ) (places : List ℕ) (entries : List (Option ℚ))
+    → stage_from Start (decode_by elem counts swapped (LeftShift up ∷ RightShift down ∷ []) places entries) ≡ Typed elem
+unfolding stage_from stage_after
+stage_shifts elem counts true up down places entries = refl
+stage_shifts elem counts false up down places entries = refl
+
+pub stage_fields : (elem : PixType) (counts : List ℕ) (swapped : Bool) (widths : List ℕ) (places : List ℕ) (entries : List (Option ℚ))
+    → stage_from Start (decode_by elem counts swapped (Unpack widths ∷ []) places entries) ≡ Typed elem
+unfolding stage_from stage_after
+stage_fields elem counts true widths places entries = refl
+stage_fields elem counts false widths places entries = refl

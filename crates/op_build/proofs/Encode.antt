@@ -1,0 +1,30 @@
+-- Encoding gives the elements of a pixel of the frame that is made of the values.
+use Rattle.std.proofs.Common.{◌≡◌, ◌<◌, ℕ, ⊎_elim, false, pos, List}
+use Rattle.frac_math.specs.Fraction.{ℚ, floor}
+use Rattle.pix_desc.specs.declared.desc.Desc.{Desc}
+use Rattle.pix_desc.specs.Frame.{frame_of, FitDepths}
+use Rattle.pix_desc.specs.Layouts.{IsValid}
+use Rattle.pix_meaning.specs.Pairs.{channel_of}
+use Rattle.op_list.specs.declared.place.Place.{Place}
+use Rattle.op_list.specs.declared.types.PixType.TheVariants.{Rat}
+use Rattle.op_list.specs.declared.types.Stage.TheVariants.{Typed}
+use Rattle.op_list.specs.declared.values.Values.TheVariants.{Numbers, Fractions}
+use Rattle.op_list.specs.Values.{four}
+use Rattle.op_list.specs.Run.{run_from}
+use Rattle.op_build.specs.Meaning.{elements_at}
+use Rattle.op_build.specs.Recipe.{encode}
+use Rattle.op_build.proofs.EncodeElements.{GivesValues, encode_elements}
+use Rattle.op_build.proofs.EncodeWord.{encode_word}
+use Rattle.op_build.proofs.Shapes.{has_layout}
+
+pub encode_gives : (desc : Desc) (frame : List ℕ) (place : Place) (value : ℕ → ℕ → ℕ → ℕ) (vs : ℕ → ℚ) → IsValid desc → desc.palette ≡ false
+    → FitDepths desc place.width place.rows value → ((j : ℕ) → j < desc.count → floor (vs (channel_of desc j)) ≡ pos (value j place.x place.row))
+    → place.x < place.width → place.row < place.rows
+    → run_from frame place (Typed Rat) (encode desc) (Fractions (four vs))
+    ≡ Numbers (elements_at desc (frame_of desc place.width place.rows value) place.width place.rows place.x place.row)
+encode_gives desc frame place value vs valid plain fit codes column row =
+    let gives : GivesValues desc place value vs = record { valid = valid; plain = plain; fit = fit; codes = codes; column = column; row = row } in
+    ⊎_elim
+    (λ is. encode_elements desc place value vs gives is frame)
+    (λ is. encode_word desc place value vs gives is frame)
+    (has_layout desc valid)

@@ -1,0 +1,56 @@
+-- What the operations of an encoding make of the values of a pixel's channels, one after the other.
+use Rattle.std.proofs.Common.{◌≡◌, ℕ, ◌*◌, ◌%◌, ◌^◌, Bool, true, false, if◌then◌else◌, List, [], ◌∷◌, ◌++◌, get_or, Option, refl}
+use Rattle.std.specs.Prelude.{sum, nat_lt}
+use Rattle.frac_math.specs.Fraction.{ℚ, floor}
+use Rattle.op_list.specs.declared.op.Op.{Op}
+use Rattle.op_list.specs.declared.op.Op.TheVariants.{Write, SwapBytes, Pack, Clear, LeftShift, Swizzle, Convert}
+use Rattle.op_list.specs.declared.place.Place.{Place}
+use Rattle.op_list.specs.declared.types.PixType.{PixType}
+use Rattle.op_list.specs.declared.types.PixType.TheVariants.{U8, U16, U32, Rat}
+use Rattle.op_list.specs.declared.types.Stage.TheVariants.{Typed}
+use Rattle.op_list.specs.declared.values.Values.TheVariants.{Numbers, Fractions}
+use Rattle.op_list.specs.Types.{bits, bytes, is_whole_type}
+use Rattle.op_list.specs.Values.{four, entry}
+use Rattle.op_list.specs.Whole.{modulo}
+use Rattle.op_list.specs.Apply.{apply, cleared_number, packed}
+use Rattle.op_list.specs.Run.{run_from}
+use Rattle.op_list.specs.Typing.{stage_after}
+use Rattle.op_build.specs.Recipe.{only_if}
+use Rattle.op_build.proofs.ByteNumbers.{in_order}
+
+-- channels to places, the places' values to elements, and the elements
+abbrev pub encode_by : PixType → List ℕ → Bool → Op → List ℕ → List (Option ℚ) → List Op
+encode_by elem counts swapped join places entries = Convert elem false ∷ Swizzle places ∷ Clear entries ∷ join ∷ only_if swapped SwapBytes ++ Write elem counts ∷ []
+
+-- the whole number of a channel
+abbrev pub whole_code : PixType → (ℕ → ℚ) → ℕ → ℕ
+whole_code elem vs c = modulo (floor (vs c)) (2 ^ bits elem)
+
+-- the number at a place
+abbrev pub placed_code : PixType → List ℕ → List (Option ℚ) → (ℕ → ℚ) → ℕ → ℕ
+placed_code elem places entries vs i = cleared_number (entry entries i) (get_or (four (whole_code elem vs)) (get_or places i 0) 0)
+
+pub run_shift : (frame : List ℕ) (place : Place) (elem : PixType) (counts : List ℕ) (swapped : Bool) (up : ℕ) (places : List ℕ) (entries : List (Option ℚ)) (vs : ℕ → ℚ)
+    → is_whole_type elem ≡ true → run_from frame place (Typed Rat) (encode_by elem counts swapped (LeftShift up) places entries) (Fractions (four vs))
+    ≡ Numbers (four (λ i. if nat_lt i (sum counts) then in_order swapped (bytes elem) (placed_code elem places entries vs i * 2 ^ up % 2 ^ bits elem) else 0))
+unfolding run_from apply stage_after
+run_shift frame place U8 counts true up places entries vs whole = refl
+run_shift frame place U8 counts false up places entries vs whole = refl
+run_shift frame place U16 counts true up places entries vs whole = refl
+run_shift frame place U16 counts false up places entries vs whole = refl
+run_shift frame place U32 counts true up places entries vs whole = refl
+run_shift frame place U32 counts false up places entries vs whole = refl
+run_shift frame place Rat counts swapped up places entries vs whole = absurd cc
+
+-- a word is the first element, and the only one
+pub run_pack : (frame : List ℕ) (place : Place) (elem : PixType) (swapped : Bool) (widths : List ℕ) (places : List ℕ) (entries : List (Option ℚ)) (vs : ℕ → ℚ)
+    → is_whole_type elem ≡ true → run_from frame place (Typed Rat) (encode_by elem (1 ∷ 0 ∷ 0 ∷ 0 ∷ []) swapped (Pack widths) places entries) (Fractions (four vs))
+    ≡ Numbers (in_order swapped (bytes elem) (packed widths (Numbers (four (placed_code elem places entries vs)))) ∷ 0 ∷ 0 ∷ 0 ∷ [])
+unfolding run_from apply stage_after
+run_pack frame place U8 true widths places entries vs whole = refl
+run_pack frame place U8 false widths places entries vs whole = refl
+run_pack frame place U16 true widths places entries vs whole = refl
+run_pack frame place U16 false widths places entries vs whole = refl
+run_pack frame place U32 true widths places entries vs whole = refl
+run_pack frame place U32 false widths places entries vs whole = refl
+run_pack frame place Rat swapped widths places entries vs whole = absurd cc

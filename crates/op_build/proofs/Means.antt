@@ -1,0 +1,54 @@
+-- The list of a valid pair means the target rows: decoding, conversion and encoding, one behind the other.
+use Rattle.std.proofs.Common.{◌≡◌, ◌<◌, ◌^◌, ℕ, ◌+◌, false, if◌then◌else◌, List, ◌++◌, All, refl, ◌∙◌, ap, subst}
+use Rattle.pix_desc.specs.Component.{component_of}
+use Rattle.pix_desc.specs.Frame.{frame_of, FitDepths}
+use Rattle.pix_meaning.specs.declared.pair.Pair.{Pair}
+use Rattle.pix_meaning.specs.Pairs.{IsValidPair}
+use Rattle.pix_meaning.specs.Target.{result_of, target_rows}
+use Rattle.pix_meaning.proofs.TargetLaws.{result_below}
+use Rattle.op_list.specs.declared.op.Op.{Op}
+use Rattle.op_list.specs.declared.place.Place.{Place}
+use Rattle.op_list.specs.declared.types.Stage.TheVariants.{Start}
+use Rattle.op_list.specs.declared.values.Values.TheVariants.{Numbers, Fractions}
+use Rattle.op_list.specs.Values.{four, number, no_values}
+use Rattle.op_list.specs.Typing.{stage_from}
+use Rattle.op_list.specs.Run.{run, run_from}
+use Rattle.op_build.specs.Recipe.{decode, convert, encode, recipe}
+use Rattle.op_build.specs.Meaning.{elements_at, MeansItsTarget}
+use Rattle.op_build.proofs.Runs.{run_from-append, stage_from-append}
+use Rattle.op_build.proofs.Decode.{decode_gives}
+use Rattle.op_build.proofs.Convert.{convert_gives, coded}
+use Rattle.op_build.proofs.Encode.{encode_gives}
+
+-- the results fit the depths of a target without a palette
+results_fit : (pair : Pair) (width rows first : ℕ) (frame : List ℕ) → pair.to.desc.palette ≡ false → FitDepths pair.to.desc width rows (result_of pair width rows first frame)
+results_fit pair width rows first frame none = λ j x y listed across down.
+    subst (λ p. result_of pair width rows first frame j x y < 2 ^ (if p then 8 else (component_of pair.to.desc j).depth)) none (result_below pair width rows first frame j x y)
+
+-- a list of three parts
+three_parts : (frame : List ℕ) (place : Place) (first second third : List Op) → run_from frame place Start (first ++ second ++ third) no_values
+    ≡ run_from frame place (stage_from (stage_from Start first) second) third (run_from frame place (stage_from Start first) second (run_from frame place Start first no_values))
+three_parts frame place first second third =
+    run_from-append frame place Start (first ++ second) third no_values
+    ∙ ap (λ stage. run_from frame place stage third (run_from frame place Start (first ++ second) no_values)) (stage_from-append Start first second)
+    ∙ ap (run_from frame place (stage_from (stage_from Start first) second) third) (run_from-append frame place Start first second no_values)
+
+recipe_run : (pair : Pair) (frame : List ℕ) (place : Place) (first : ℕ) → IsValidPair pair → pair.to.desc.palette ≡ false → All (λ byte. byte < 256) frame → place.y ≡ first + place.row
+    → place.x < place.width → place.row < place.rows
+    → run_from frame place Start (recipe pair) no_values
+    ≡ Numbers (elements_at pair.to.desc (frame_of pair.to.desc place.width place.rows (result_of pair place.width place.rows first frame)) place.width place.rows place.x place.row)
+unfolding recipe
+recipe_run pair frame place first valid none bytes dither across down =
+    let stage = stage_from Start (decode pair.from.desc) in
+    let gives = convert_gives pair frame place stage first valid none dither in
+    three_parts frame place (decode pair.from.desc) (convert pair) (encode pair.to.desc)
+    ∙ ap (λ values. run_from frame place (stage_from stage (convert pair)) (encode pair.to.desc) (run_from frame place stage (convert pair) values)) (decode_gives pair.from.desc frame place valid.from bytes)
+    ∙ ap (run_from frame place (stage_from stage (convert pair)) (encode pair.to.desc)) gives.values
+    ∙ ap (λ s. run_from frame place s (encode pair.to.desc) (Fractions (four (coded pair place.width place.rows frame place.x place.row place.y)))) gives.rational
+    ∙ encode_gives pair.to.desc frame place (result_of pair place.width place.rows first frame) (coded pair place.width place.rows frame place.x place.row place.y) valid.to none
+    (results_fit pair place.width place.rows first frame none) gives.floors across down
+
+pub means_target : (pair : Pair) → MeansItsTarget pair
+unfolding run target_rows
+means_target pair = λ valid none frame width rows first x row bytes size across down.
+    ap (λ values. four (λ i. number values i)) (recipe_run pair frame (record { width = width; rows = rows; x = x; row = row; y = first + row }) first valid none bytes refl across down)

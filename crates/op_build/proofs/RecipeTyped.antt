@@ -1,0 +1,270 @@
+-- The recipe of a valid pair is a list of operations: each may follow those before it and has good arguments, and there are at most 20.
+use Rattle.std.proofs.Common.{◌≡◌, ℕ, ◌+◌, ◌-◌, ◌^◌, ◌<◌, ◌≤◌, ⊎_elim, Bool, true, false, not, ◌&&◌, if◌then◌else◌, nat_eq, List, [], ◌∷◌, ◌++◌, length, get_or, Option, Some, None, sym, refl, ap, subst, ◌∙◌, arith}
+use Rattle.std.specs.Prelude.{nat_lt}
+use Rattle.std.specs.List.{list_all}
+use Rattle.std.proofs.lemmas.Bool.{and_from, and_parts, or_right, cond_both, cond-true, cond-false, lt-ltb, le-leb, cases_lt}
+use Rattle.std.proofs.lemmas.List.{get_or_past}
+use Rattle.std.proofs.lemmas.Nat.{pow_pos}
+use Rattle.frac_math.specs.Fraction.{ℚ, nat}
+use Rattle.pix_desc.specs.declared.desc.Desc.{Desc}
+use Rattle.pix_desc.specs.Component.{component_of}
+use Rattle.pix_desc.specs.Layouts.{IsValid, is_elements}
+use Rattle.pix_desc.proofs.Valid.{laid_out}
+use Rattle.pix_meaning.specs.declared.pair.Pair.{Pair}
+use Rattle.pix_meaning.specs.declared.pair.Side.{Side}
+use Rattle.pix_meaning.specs.Pairs.{IsValidPair, channel_of, component_count, is_rgb}
+use Rattle.op_list.specs.declared.op.Op.{Op}
+use Rattle.op_list.specs.declared.op.Op.TheVariants.{Write, SwapBytes, Pack, Clear, LeftShift, Swizzle, Convert, Dither, Linear, Scale, Min, Max}
+use Rattle.op_list.specs.declared.types.PixType.{PixType}
+use Rattle.op_list.specs.declared.types.PixType.TheVariants.{U8, U16, U32, Rat}
+use Rattle.op_list.specs.declared.types.Stage.{Stage}
+use Rattle.op_list.specs.declared.types.Stage.TheVariants.{Start, Typed, Ended}
+use Rattle.op_list.specs.Types.{bits, is_whole_type, is_wide, is_rational, is_same}
+use Rattle.op_list.specs.Typing.{may_follow, are_good, are_counts, are_typed, all_fit, entry_fits, stage_after, stage_from, IsOpList}
+use Rattle.op_build.specs.Shape.{element_type, element_counts, field_widths, is_swapped, slots}
+use Rattle.op_build.specs.Codes.{decoded_type}
+use Rattle.op_build.specs.Recipe.{decode, convert, encode, recipe, only_if, from_codes, to_codes, to_places, source_of, spare_zero, spare_zeros}
+use Rattle.op_build.proofs.Decode.{decode_stage}
+use Rattle.op_build.proofs.DecodeTyped.{decode_typed}
+use Rattle.op_build.proofs.ElementPlaces.{HasElements}
+use Rattle.op_build.proofs.Shapes.{first_size, has_layout, has_places, has_type, element_counts_are_good, field_widths_are_good}
+use Rattle.op_build.proofs.WordBits.{number_end}
+use Rattle.op_build.proofs.WordShape.{HasWord}
+
+-- A list may follow a stage, leaves another one, and has at most so many operations.
+pub record IsTyped (stage : Stage) (ops : List Op) (last : Stage) (most : ℕ) : Type 0 where
+  pub typed : are_typed stage ops ≡ true
+  pub leaves : stage_from stage ops ≡ last
+  pub size : length ops ≤ most
+
+pub no_operations : (stage : Stage) → IsTyped stage [] stage 0
+unfolding are_typed stage_from
+no_operations stage = record { typed = refl; leaves = refl; size = omega arith }
+
+-- an operation in front
+pub one_more : (stage next last : Stage) (op : Op) (ops : List Op) (most : ℕ) → may_follow stage op ≡ true → are_good stage op ≡ true → stage_after stage op ≡ next
+    → IsTyped next ops last most → IsTyped stage (op ∷ ops) last (most + 1)
+unfolding are_typed stage_from
+one_more stage next last op ops most follows good after rest = record {
+  typed = and_from (may_follow stage op && are_good stage op) (are_typed (stage_after stage op) ops) (and_from (may_follow stage op) (are_good stage op) follows good)
+      (ap (λ s. are_typed s ops) after ∙ rest.typed);
+  leaves = ap (λ s. stage_from s ops) after ∙ rest.leaves;
+  size = omega (arith, rest.size);
+}
+
+-- an operation in front, where there is need of it
+pub one_more_if : (needed : Bool) (stage last : Stage) (op : Op) (ops : List Op) (most : ℕ) → (needed ≡ true → may_follow stage op ≡ true) → are_good stage op ≡ true → stage_after stage op ≡ stage
+    → IsTyped stage ops last most → IsTyped stage (only_if needed op ++ ops) last (most + 1)
+one_more_if true stage last op ops most follows good after rest = one_more stage stage last op ops most (follows refl) good after rest
+one_more_if false stage last op ops most follows good after rest = record { typed = rest.typed; leaves = rest.leaves; size = omega (arith, rest.size) }
+
+-- one list behind another
+pub both_parts : (stage middle last : Stage) (first second : List Op) (most more : ℕ) → IsTyped stage first middle most → IsTyped middle second last more
+    → IsTyped stage (first ++ second) last (most + more)
+unfolding are_typed stage_from
+both_parts stage middle last [] second most more front back =
+    let there : IsTyped stage second last more = subst (λ s. IsTyped s second last more) (sym front.leaves) back in
+    record { typed = there.typed; leaves = there.leaves; size = omega (arith, there.size) }
+both_parts stage middle last (op ∷ first) second most more front back =
+    let tests = and_parts (may_follow stage op && are_good stage op) (are_typed (stage_after stage op) first) front.typed in
+    let rest = both_parts (stage_after stage op) middle last first second (most - 1) more
+    (record { typed = tests.1; leaves = front.leaves; size = omega (arith, front.size) }) back in
+    record {
+      typed = and_from (may_follow stage op && are_good stage op) (are_typed (stage_after stage op) (first ++ second)) tests.0 rest.typed;
+      leaves = rest.leaves;
+      size = omega (arith, rest.size, front.size);
+    }
+
+-- ---- the first part
+
+decode_length : (palette swapped elements : Bool) (a b c d e f g h i : Op)
+    → length (if palette then a ∷ b ∷ [] else c ∷ only_if swapped d ++ (if elements then e ∷ f ∷ [] else g ∷ []) ++ h ∷ i ∷ []) ≤ 6
+decode_length true swapped elements a b c d e f g h i = omega arith
+decode_length false true true a b c d e f g h i = omega arith
+decode_length false true false a b c d e f g h i = omega arith
+decode_length false false true a b c d e f g h i = omega arith
+decode_length false false false a b c d e f g h i = omega arith
+
+length-decode : (desc : Desc) → length (decode desc) ≤ 6
+unfolding decode
+length-decode desc = decode_length desc.palette (is_swapped desc) (is_elements desc) _ _ _ _ _ _ _ _ _
+
+decode_part : (desc : Desc) → IsValid desc → IsTyped Start (decode desc) (Typed (decoded_type desc)) 6
+decode_part desc valid = record { typed = decode_typed desc valid; leaves = decode_stage desc valid; size = length-decode desc }
+
+-- ---- the second part
+
+-- of fractions
+codes_step : (plain : Bool) (by : ℚ) (rows : List (List ℚ)) (last : Stage) (ops : List Op) (most : ℕ) → IsTyped (Typed Rat) ops last most
+    → IsTyped (Typed Rat) ((if plain then Scale by else Linear rows) ∷ ops) last (most + 1)
+unfolding may_follow are_good stage_after
+codes_step true by rows last ops most rest = one_more (Typed Rat) (Typed Rat) last (Scale by) ops most refl refl refl rest
+codes_step false by rows last ops most rest = one_more (Typed Rat) (Typed Rat) last (Linear rows) ops most refl refl refl rest
+
+from_codes_step : (side : Side) (last : Stage) (ops : List Op) (most : ℕ) → IsTyped (Typed Rat) ops last most → IsTyped (Typed Rat) (from_codes side ∷ ops) last (most + 1)
+unfolding from_codes
+from_codes_step side last ops most rest = codes_step _ _ _ last ops most rest
+
+to_codes_step : (side : Side) (last : Stage) (ops : List Op) (most : ℕ) → IsTyped (Typed Rat) ops last most → IsTyped (Typed Rat) (to_codes side ∷ ops) last (most + 1)
+unfolding to_codes
+to_codes_step side last ops most rest = codes_step _ _ _ last ops most rest
+
+linear_step : (needed : Bool) (rows : List (List ℚ)) (last : Stage) (ops : List Op) (most : ℕ) → IsTyped (Typed Rat) ops last most
+    → IsTyped (Typed Rat) (only_if needed (Linear rows) ++ ops) last (most + 1)
+unfolding may_follow are_good stage_after
+linear_step needed rows last ops most rest = one_more_if needed (Typed Rat) last (Linear rows) ops most (λ _. refl) refl refl rest
+
+-- two of them
+linear_steps : (needed also : Bool) (rows others : List (List ℚ)) (last : Stage) (ops : List Op) (most : ℕ) → IsTyped (Typed Rat) ops last most
+    → IsTyped (Typed Rat) (only_if needed (Linear rows) ++ only_if also (Linear others) ++ ops) last (most + 2)
+unfolding may_follow are_good stage_after
+linear_steps true also rows others last ops most rest =
+    let more = linear_step also others last ops most rest in
+    let is = one_more (Typed Rat) (Typed Rat) last (Linear rows) (only_if also (Linear others) ++ ops) (most + 1) refl refl refl more in
+    record { typed = is.typed; leaves = is.leaves; size = omega (arith, is.size) }
+linear_steps false also rows others last ops most rest =
+    let more = linear_step also others last ops most rest in
+    record { typed = more.typed; leaves = more.leaves; size = omega (arith, more.size) }
+
+last_steps : (k : ℕ) (low high : List (Option ℚ)) → k ≤ 4 → IsTyped (Typed Rat) (Dither k ∷ Max low ∷ Min high ∷ []) (Typed Rat) 3
+unfolding may_follow are_good stage_after
+last_steps k low high within =
+    one_more (Typed Rat) (Typed Rat) (Typed Rat) (Dither k) (Max low ∷ Min high ∷ []) 2 refl (le-leb k 4 within) refl
+    (one_more (Typed Rat) (Typed Rat) (Typed Rat) (Max low) (Min high ∷ []) 1 refl refl refl
+    (one_more (Typed Rat) (Typed Rat) (Typed Rat) (Min high) [] 0 refl refl refl (no_operations (Typed Rat))))
+
+first_convert : (elem : PixType) (ops : List Op) (last : Stage) (most : ℕ) → IsTyped (Typed Rat) ops last most → IsTyped (Typed elem) (Convert Rat false ∷ ops) last (most + 1)
+unfolding may_follow are_good stage_after
+first_convert elem ops last most rest = one_more (Typed elem) (Typed Rat) last (Convert Rat false) ops most refl refl refl rest
+
+convert_part : (pair : Pair) (elem : PixType) → pair.dither ≤ 4 → IsTyped (Typed elem) (convert pair) (Typed Rat) 8
+unfolding convert
+convert_part pair elem within =
+    first_convert elem _ (Typed Rat) 7
+    (from_codes_step pair.from (Typed Rat) _ 6
+    (linear_steps (not (is_rgb pair.from.desc)) (not (is_rgb pair.to.desc)) _ _ (Typed Rat) _ 4
+    (to_codes_step pair.to (Typed Rat) _ 3 (last_steps pair.dither _ _ within))))
+
+-- ---- the third part
+
+four_pass : (test : ℕ → Bool) → ((i : ℕ) → i < 4 → test i ≡ true) → (test 0 && (test 1 && (test 2 && (test 3 && true)))) ≡ true
+four_pass test each =
+    and_from (test 0) (test 1 && (test 2 && (test 3 && true))) (each 0 (omega arith))
+    (and_from (test 1) (test 2 && (test 3 && true)) (each 1 (omega arith))
+    (and_from (test 2) (test 3 && true) (each 2 (omega arith))
+    (and_from (test 3) true (each 3 (omega arith)) refl)))
+
+channel_below : (desc : Desc) (j : ℕ) → j < 4 → channel_of desc j < 4
+channel_below desc j below = cond_both (desc.alpha && nat_eq (j + 1) (component_count desc)) 3 j (λ c. c < 4) (λ _. omega arith) (λ _. below)
+
+source_below : (desc : Desc) (p : ℕ) (slot : Option ℕ) → p < 4 → ((j : ℕ) → slot ≡ Some j → j < 4) → nat_lt (source_of desc p slot) 4 ≡ true
+source_below desc p None below held = lt-ltb p 4 below
+source_below desc p (Some j) below held = lt-ltb (channel_of desc j) 4 (channel_below desc j (held j refl))
+
+slot_below : (desc : Desc) (p j : ℕ) → IsValid desc → get_or (slots desc) p None ≡ Some j → j < 4
+slot_below desc p j valid here =
+    let places = has_places desc valid in
+    ⊎_elim
+    (λ (inside : p < length (slots desc)). omega (arith, (places.only p j inside here).0, (laid_out desc valid).most))
+    (λ (past : length (slots desc) ≤ p). let none : None ≡ Some j = sym (get_or_past (slots desc) p None past) ∙ here in absurd cc)
+    (cases_lt p (length (slots desc)))
+
+to_places_fit : (desc : Desc) → IsValid desc → list_all (λ i. nat_lt i 4) (to_places desc) ≡ true
+to_places_fit desc valid =
+    four_pass (λ p. nat_lt (source_of desc p (get_or (slots desc) p None)) 4)
+    (λ p below. source_below desc p (get_or (slots desc) p None) below (λ j here. slot_below desc p j valid here))
+
+zero_fits : (count : ℕ) → entry_fits count (Some (nat 0)) ≡ true
+zero_fits count = lt-ltb 0 (2 ^ count) (pow_pos count)
+
+spare_fits : (desc : Desc) (count p : ℕ) (slot : Option ℕ) → entry_fits count (spare_zero desc p slot) ≡ true
+spare_fits desc count p (Some j) = refl
+spare_fits desc count p None =
+    cond_both (nat_lt p (length (slots desc))) (Some (nat 0)) None (λ entry. entry_fits count entry ≡ true) (λ _. zero_fits count) (λ _. refl)
+
+spare_zeros_fit : (desc : Desc) (count : ℕ) → all_fit count (spare_zeros desc) ≡ true
+spare_zeros_fit desc count =
+    four_pass (λ p. entry_fits count (spare_zero desc p (get_or (slots desc) p None))) (λ p below. spare_fits desc count p (get_or (slots desc) p None))
+
+same_type : (elem : PixType) → is_same elem elem ≡ true
+same_type U8 = refl
+same_type U16 = refl
+same_type U32 = refl
+same_type Rat = refl
+
+-- What is wanted of the arguments of an encoding, whose elements are put together by `joins`.
+record AreArguments (elem : PixType) (counts : List ℕ) (swapped : Bool) (places : List ℕ) (entries : List (Option ℚ)) (joins : Op) : Type 0 where
+  whole : is_whole_type elem ≡ true
+  good : are_counts 4 counts ≡ true
+  wide : swapped ≡ true → is_wide (Typed elem) ≡ true
+  within : list_all (λ i. nat_lt i 4) places ≡ true
+  fit : all_fit (bits elem) entries ≡ true
+  follows : may_follow (Typed elem) joins ≡ true
+  fits : are_good (Typed elem) joins ≡ true
+  stays : stage_after (Typed elem) joins ≡ Typed elem
+
+encode_steps : (elem : PixType) (counts : List ℕ) (swapped : Bool) (places : List ℕ) (entries : List (Option ℚ)) (joins : Op) → AreArguments elem counts swapped places entries joins
+    → IsTyped (Typed Rat) (Convert elem false ∷ Swizzle places ∷ Clear entries ∷ joins ∷ only_if swapped SwapBytes ++ Write elem counts ∷ []) Ended 6
+unfolding may_follow are_good stage_after
+encode_steps elem counts swapped places entries joins are =
+    one_more (Typed Rat) (Typed elem) Ended (Convert elem false) _ 5 refl refl refl
+    (one_more (Typed elem) (Typed elem) Ended (Swizzle places) _ 4 refl are.within refl
+    (one_more (Typed elem) (Typed elem) Ended (Clear entries) _ 3 refl (or_right (is_rational (Typed elem)) (all_fit (bits elem) entries) are.fit) refl
+    (one_more (Typed elem) (Typed elem) Ended joins _ 2 are.follows are.fits are.stays
+    (one_more_if swapped (Typed elem) Ended SwapBytes _ 1 are.wide refl refl
+    (one_more (Typed elem) Ended Ended (Write elem counts) [] 0 (same_type elem) (and_from (is_whole_type elem) (are_counts 4 counts) are.whole are.good) refl (no_operations Ended))))))
+
+module _ (desc : Desc) (valid : IsValid desc) where
+  abbrev joining : Op → Type 0
+  joining joins = AreArguments (element_type desc) (element_counts desc) (is_swapped desc) (to_places desc) (spare_zeros desc) joins
+
+  arguments : (joins : Op) → may_follow (Typed (element_type desc)) joins ≡ true → are_good (Typed (element_type desc)) joins ≡ true
+      → stage_after (Typed (element_type desc)) joins ≡ Typed (element_type desc) → joining joins
+  arguments joins follows fits stays =
+      let typed = has_type desc valid in
+      record {
+        whole = typed.whole;
+        good = element_counts_are_good desc valid;
+        wide = typed.wide;
+        within = to_places_fit desc valid;
+        fit = spare_zeros_fit desc (bits (element_type desc));
+        follows = follows;
+        fits = fits;
+        stays = stays;
+      }
+
+  element_arguments : HasElements desc (first_size desc) → joining (if is_elements desc then LeftShift (component_of desc 0).shift else Pack (field_widths desc))
+  unfolding may_follow are_good stage_after
+  element_arguments is =
+      let laid = laid_out desc valid in
+      let typed = has_type desc valid in
+      let shift = (component_of desc 0).shift in
+      let room : shift < bits (element_type desc) = omega (arith, number_end desc laid 0 laid.some, typed.bits, is.bytes, laid.deep 0 laid.some) in
+      subst joining (sym (cond-true (is_elements desc) (LeftShift shift) (Pack (field_widths desc)) is.elements))
+      (arguments (LeftShift shift) typed.whole (lt-ltb shift (bits (element_type desc)) room) refl)
+
+  word_arguments : HasWord desc → joining (if is_elements desc then LeftShift (component_of desc 0).shift else Pack (field_widths desc))
+  unfolding may_follow are_good stage_after
+  word_arguments is =
+      let typed = has_type desc valid in
+      subst joining (sym (cond-false (is_elements desc) (LeftShift (component_of desc 0).shift) (Pack (field_widths desc)) is.word))
+      (arguments (Pack (field_widths desc)) typed.whole (field_widths_are_good desc is) refl)
+
+  encode_part : IsTyped (Typed Rat) (encode desc) Ended 6
+  unfolding encode
+  encode_part =
+      encode_steps (element_type desc) (element_counts desc) (is_swapped desc) (to_places desc) (spare_zeros desc) _
+      (⊎_elim element_arguments word_arguments (has_layout desc valid))
+
+-- ---- the whole
+
+pub recipe_typed : (pair : Pair) → IsValidPair pair → IsTyped Start (recipe pair) Ended 20
+unfolding recipe
+recipe_typed pair valid =
+    let elem = decoded_type pair.from.desc in
+    both_parts Start (Typed Rat) Ended (decode pair.from.desc ++ convert pair) (encode pair.to.desc) 14 6
+    (both_parts Start (Typed elem) (Typed Rat) (decode pair.from.desc) (convert pair) 6 8 (decode_part pair.from.desc valid.from) (convert_part pair elem valid.dither))
+    (encode_part pair.to.desc valid.to)
+
+pub recipe_is_list : (pair : Pair) → IsValidPair pair → IsOpList (recipe pair)
+recipe_is_list pair valid = let is = recipe_typed pair valid in record { typed = is.typed; size = omega (arith, is.size) }

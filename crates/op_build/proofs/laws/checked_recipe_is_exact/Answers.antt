@@ -1,0 +1,5 @@
+use Rattle.op_build.proofs.BoundFrames.{checked_is_there}
+use Rattle.op_build.proofs.laws.checked_recipe_is_exact.Goals as goal
+
+pub returns : goal.returns
+returns c = checked_is_there

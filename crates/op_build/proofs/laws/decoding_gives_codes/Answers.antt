@@ -1,0 +1,5 @@
+use Rattle.op_build.proofs.Decode.{gives_codes}
+use Rattle.op_build.proofs.laws.decoding_gives_codes.Goals as goal
+
+pub returns : goal.returns
+returns c = gives_codes

@@ -1,0 +1,5 @@
+use Rattle.op_build.proofs.Decode.{whole_typed}
+use Rattle.op_build.proofs.laws.decoding_is_whole.Goals as goal
+
+pub returns : goal.returns
+returns c = whole_typed

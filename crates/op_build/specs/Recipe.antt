@@ -1,0 +1,132 @@
+-- The list of operations of a conversion. Steps that change nothing stand in it too; to drop them is the optimiser's work.
+use Rattle.std.specs.Prelude.{ℕ, ◌-◌, ◌^◌, Bool, not, ◌&&◌, if◌then◌else◌, nat_lt, nat_eq, List, [], ◌∷◌, ◌++◌, length, slice_index_or, Option, Some, None}
+use Rattle.frac_math.specs.Fraction.{ℚ, nat, neg_ℚ, ◌/ℚ◌, equal_ℚ}
+use Rattle.pix_desc.specs.declared.desc.Desc.{Desc}
+use Rattle.pix_desc.specs.Component.{component_of}
+use Rattle.pix_desc.specs.Layouts.{is_elements}
+use Rattle.colour_matrix.specs.declared.class.Levels.{Levels}
+use Rattle.colour_matrix.specs.Levels.{levels}
+use Rattle.colour_matrix.specs.Values.{coefficient, row_at}
+use Rattle.colour_matrix.specs.Colour.{to_rgb_rows, from_rgb_rows}
+use Rattle.pix_meaning.specs.declared.pair.Side.{Side}
+use Rattle.pix_meaning.specs.declared.pair.Pair.{Pair}
+use Rattle.pix_meaning.specs.Pairs.{is_rgb, has_channel, component_at, channel_of, class_of, depth_of}
+use Rattle.op_list.specs.declared.types.PixType.TheVariants.{U8, Rat}
+use Rattle.op_list.specs.declared.op.Op.{Op}
+use Rattle.op_list.specs.declared.op.Op.TheVariants.{Read, Write, SwapBytes, Unpack, Pack, Clear, LeftShift, RightShift, Swizzle, Convert, Dither, Linear, Scale, Min, Max}
+use Rattle.op_list.specs.Types.{bits}
+use Rattle.op_list.specs.Values.{four}
+use Rattle.op_build.specs.Shape.{element_type, element_counts, is_swapped, field_widths, slots, position_of}
+
+-- an operation, where there is need of it
+abbrev pub only_if : Bool → Op → List Op
+only_if needed op = if needed then op ∷ [] else []
+
+-- the depth by which a channel goes that the format has not: that of component 0
+abbrev pub channel_depth : Desc → ℕ → ℕ
+channel_depth desc c = if has_channel desc c then depth_of desc (component_at desc c) else depth_of desc 0
+
+-- ---- from the elements of a source pixel to the codes of its channels
+
+-- the fields of a word; of an element the bits of its component: those above them go out at the top, those below at the bottom
+abbrev pub split : Desc → List Op
+split desc =
+    let c = component_of desc 0 in
+    let size = bits (element_type desc) in
+    if is_elements desc then LeftShift (size - c.shift - c.depth) ∷ RightShift (size - c.depth) ∷ []
+    else Unpack (field_widths desc) ∷ []
+
+-- channel c is taken from its component's place, and from place c where it is missing
+abbrev pub from_places : Desc → List ℕ
+from_places desc = four (λ c. if has_channel desc c then position_of desc (component_at desc c) else c)
+
+-- a missing chroma is in the middle of the codes, and a missing alpha is the greatest code
+abbrev pub missing_code : Desc → ℕ → ℕ
+missing_code desc c = if nat_eq c 3 then 2 ^ depth_of desc 0 - 1 else 2 ^ (depth_of desc 0 - 1)
+
+abbrev pub missing_codes : Desc → List (Option ℚ)
+missing_codes desc = four (λ c. if has_channel desc c then None else Some (nat (missing_code desc c)))
+
+unfoldable pub decode : Desc → List Op
+decode desc =
+    if desc.palette then Read U8 (1 ∷ 0 ∷ 0 ∷ 0 ∷ []) Bool.true ∷ Clear (missing_codes desc) ∷ []
+    else Read (element_type desc) (element_counts desc) Bool.false
+    ∷ only_if (is_swapped desc) SwapBytes ++ split desc ++ Swizzle (from_places desc) ∷ Clear (missing_codes desc) ∷ []
+
+-- ---- from the codes of a source pixel to those of a target pixel, not yet rounded
+
+abbrev pub channel_levels : Side → ℕ → Levels
+channel_levels side c = levels (class_of side.desc c) (channel_depth side.desc c) side.range
+
+-- all four scales are equal, and all bases are 0
+unfoldable pub is_plain : Side → Bool
+is_plain side =
+    let l = channel_levels side in
+    equal_ℚ (l 1).scale (l 0).scale && equal_ℚ (l 2).scale (l 0).scale && equal_ℚ (l 3).scale (l 0).scale
+    && equal_ℚ (l 0).base (nat 0) && equal_ℚ (l 1).base (nat 0) && equal_ℚ (l 2).base (nat 0) && equal_ℚ (l 3).base (nat 0)
+
+-- a row of Linear: its coefficient j, and its constant
+abbrev pub linear_row : (ℕ → ℚ) → ℚ → List ℚ
+linear_row at constant = at 0 ∷ at 1 ∷ at 2 ∷ at 3 ∷ constant ∷ []
+
+-- one coefficient and one constant for each value
+abbrev pub diagonal : (ℕ → ℚ) → (ℕ → ℚ) → List (List ℚ)
+diagonal scale constant = four (λ i. linear_row (λ j. if nat_eq i j then scale i else nat 0) (constant i))
+
+-- rows over the first three values; the fourth stays
+abbrev pub over_three : List (List ℚ) → List (List ℚ)
+over_three rows = four (λ i. linear_row (λ j.
+    if nat_eq i 3 then (if nat_eq j 3 then nat 1 else nat 0) else (if nat_eq j 3 then nat 0 else coefficient (row_at rows i) j)) (nat 0))
+
+-- codes to values: value = code / scale - base / scale
+unfoldable pub from_codes : Side → Op
+from_codes side =
+    let l = channel_levels side in
+    if is_plain side then Scale (nat 1 /ℚ (l 0).scale)
+    else Linear (diagonal (λ c. nat 1 /ℚ (l c).scale) (λ c. neg_ℚ (l c).base /ℚ (l c).scale))
+
+-- values to codes: code = scale * value + base
+unfoldable pub to_codes : Side → Op
+to_codes side =
+    let l = channel_levels side in
+    if is_plain side then Scale (l 0).scale else Linear (diagonal (λ c. (l c).scale) (λ c. (l c).base))
+
+-- a limit for each channel of a format
+abbrev pub limits : Desc → (ℕ → ℚ) → List (Option ℚ)
+limits desc limit = four (λ c. if has_channel desc c then Some (limit c) else None)
+
+unfoldable pub convert : Pair → List Op
+convert pair =
+    Convert Rat Bool.false ∷ from_codes pair.from
+    ∷ only_if (not (is_rgb pair.from.desc)) (Linear (over_three (to_rgb_rows pair.from.matrix)))
+    ++ only_if (not (is_rgb pair.to.desc)) (Linear (over_three (from_rgb_rows pair.to.matrix)))
+    ++ to_codes pair.to ∷ Dither pair.dither
+    ∷ Max (limits pair.to.desc (λ c. nat 0)) ∷ Min (limits pair.to.desc (λ c. nat (2 ^ channel_depth pair.to.desc c - 1))) ∷ []
+
+-- ---- from the codes of a target pixel to its elements
+
+-- a place takes the channel of its component; a spare place and one that is not there take what stands at that place
+abbrev pub source_of : Desc → ℕ → Option ℕ → ℕ
+source_of desc p None = p
+source_of desc p (Some j) = channel_of desc j
+
+abbrev pub to_places : Desc → List ℕ
+to_places desc = four (λ p. source_of desc p (slice_index_or (slots desc) p None))
+
+-- 0 for the spare places that are there
+abbrev pub spare_zero : Desc → ℕ → Option ℕ → Option ℚ
+spare_zero desc p (Some j) = None
+spare_zero desc p None = if nat_lt p (length (slots desc)) then Some (nat 0) else None
+
+abbrev pub spare_zeros : Desc → List (Option ℚ)
+spare_zeros desc = four (λ p. spare_zero desc p (slice_index_or (slots desc) p None))
+
+unfoldable pub encode : Desc → List Op
+encode desc =
+    Convert (element_type desc) Bool.false ∷ Swizzle (to_places desc) ∷ Clear (spare_zeros desc)
+    ∷ (if is_elements desc then LeftShift (component_of desc 0).shift else Pack (field_widths desc))
+    ∷ only_if (is_swapped desc) SwapBytes ++ Write (element_type desc) (element_counts desc) ∷ []
+
+-- the whole list
+unfoldable pub recipe : Pair → List Op
+recipe pair = decode pair.from.desc ++ convert pair ++ encode pair.to.desc

@@ -1,0 +1,136 @@
+// How the pixels of a format are taken as up to four numbers: the elements of its planes, or the fields of one word.
+ghost use Rattle.std.specs.Prelude.{◌≡◌, ◌≤◌, take, length};
+ghost use Rattle.pix_desc.specs.Component.{components, component_of, bytes_read, count_of, first_byte};
+ghost use Rattle.pix_desc.specs.Frame.{step_in, plane_step};
+ghost use Rattle.pix_desc.specs.Layouts.{IsValid, is_elements, word_shift};
+ghost use Rattle.op_build.specs.Shape.{element_bytes, element_type, element_counts, is_swapped};
+
+use op_list::PixType;
+use pix_desc::{Comp, Desc, Layout, check};
+
+/// Whether the pixels of a format that passes the check are elements.
+pub fn is_elements(desc: &Desc) -> bool
+    requires { IsValid desc.now }
+    ensures { result ≡ is_elements desc.now }
+{
+    match check(desc) {
+        Ok(Layout::Elements) => true,
+        Ok(Layout::Word) => false,
+        Err(_) => false,
+    }
+}
+
+/// The components that the descriptor has.
+pub fn components(desc: &Desc) -> &[Comp]
+    requires { desc.now.count ≤ 4 }
+    ensures { result.now ≡ components desc.now }
+{
+    first_of(&desc.comps, desc.count)
+}
+
+// The first of four components.
+fn first_of(comps: &[Comp; 4], count: u8) -> &[Comp]
+    requires { count ≤ 4 }
+    ensures first { result.now ≡ take count comps.now }
+    ensures four { length comps.now ≡ 4 }
+{
+    &comps[..usize::from(count)]
+}
+
+/// How many bytes the component is read from, 1 or 2.
+pub fn bytes_read(comp: &Comp) -> u8
+    ensures { result ≡ bytes_read comp.now }
+{
+    if u16::from(comp.shift) + u16::from(comp.depth) <= 8 {
+        1
+    } else {
+        2
+    }
+}
+
+/// The first byte that the component is read from, and 0 where it lies before the pixel.
+pub fn first_place(desc: &Desc, comp: &Comp) -> u16
+    ensures { result ≡ count_of (first_byte desc.now comp.now) }
+{
+    first_byte(desc, comp).max(0) as u16
+}
+
+fn first_byte(desc: &Desc, comp: &Comp) -> i16
+    ensures { result ≡ first_byte desc.now comp.now }
+{
+    let offset = i16::from(comp.offset);
+    if desc.be && bytes_read(comp) == 1 {
+        offset + 1
+    } else {
+        offset
+    }
+}
+
+/// The bytes of an element, or those of the whole word.
+#[tactic(auto, unfolding(crate::specs::Shape::element_bytes))]
+pub fn element_bytes(desc: &Desc) -> u8
+    requires { IsValid desc.now }
+    ensures { result ≡ element_bytes desc.now }
+{
+    let first = &desc.comps[0];
+    if is_elements(desc) {
+        bytes_read(first)
+    } else {
+        first.step
+    }
+}
+
+/// The type of the elements, or of the word.
+#[tactic(auto, unfolding(crate::specs::Shape::element_type))]
+pub fn element_type(desc: &Desc) -> PixType
+    requires { IsValid desc.now }
+    ensures { result ≡ element_type desc.now }
+{
+    let bytes = element_bytes(desc);
+    if bytes <= 1 {
+        PixType::U8
+    } else if bytes <= 2 {
+        PixType::U16
+    } else {
+        PixType::U32
+    }
+}
+
+/// Whether elements are turned round to little-endian numbers.
+#[tactic(auto, unfolding(crate::specs::Shape::is_swapped))]
+pub fn is_swapped(desc: &Desc) -> bool
+    requires { IsValid desc.now }
+    ensures { result ≡ is_swapped desc.now }
+{
+    desc.be && element_type(desc) != PixType::U8
+}
+
+/// The elements of a pixel in each plane.
+#[tactic(auto, unfolding(crate::specs::Shape::element_counts))]
+pub fn element_counts(desc: &Desc) -> [u8; 4]
+    requires { IsValid desc.now }
+    ensures { result ≡ element_counts desc.now }
+{
+    let size = element_bytes(desc);
+    let comps = components(desc);
+    [
+        step_in(comps, 0) / size,
+        step_in(comps, 1) / size,
+        step_in(comps, 2) / size,
+        step_in(comps, 3) / size,
+    ]
+}
+
+// The step of the first component that lies in the plane, and 0 where none does.
+fn step_in(comps: &[Comp], plane: u8) -> u8
+    ensures { result ≡ step_in plane comps.now }
+{
+    match comps {
+        [] => 0,
+        [comp, rest @ ..] => if comp.plane == plane {
+            comp.step
+        } else {
+            step_in(rest, plane)
+        }
+    }
+}
