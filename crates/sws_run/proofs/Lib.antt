@@ -1,7 +1,11 @@
 pub mod Taken
 pub mod Stream
-pub mod Pixels
 pub mod Refused
 pub mod Packed
-pub mod Filled
-pub mod Meant
+pub mod PackedCopies
+pub mod Members
+pub mod NamedMatrices
+pub mod TableClasses
+pub mod Evaluated
+pub mod Sides
+pub mod Converted

@@ -22,9 +22,12 @@ use Rattle.sws_run.specs.declared.ended.Ended.{Ended}
 use Rattle.sws_run.specs.declared.ended.Ended.TheVariants.{Done, Stream, TooManyFrames}
 use Rattle.sws_run.specs.declared.ended.StreamFault.TheVariants.{Truncated}
 use Rattle.pix_io.specs.Streams.{AppendsPart}
+use Rattle.desc_table.proofs.Rows.{valid_at}
+use Rattle.pix_meaning.specs.Target.{target_frame}
+use Rattle.sws_run.specs.declared.convert.Conversion.{Conversion}
+use Rattle.sws_run.specs.Conversion.{IsConversionOf}
 use Rattle.sws_run.specs.Line.{IsSound}
 use Rattle.sws_run.specs.Stream.{source_length, frame_count, frame_at, target_of, target_frames, cut_end}
-use Rattle.sws_run.specs.Meaning.{target_frame}
 use Rattle.sws_run.proofs.Taken.{HasTaken}
 
 -- ---- a fact about known bytes
@@ -178,17 +181,24 @@ frame-some desc width height valid wide high =
 
 pub frame_some : (task : Task) → IsSound task → 0 < source_length task
 unfolding source_length
-frame_some task sound = frame-some (desc_of task.source) task.width task.height sound.source.valid (omega (arith, sound.width_least)) (omega (arith, sound.height_least))
+frame_some task sound =
+    frame-some (desc_of task.source) task.width task.height (valid_at task.source sound.source) (omega (arith, sound.width_least)) (omega (arith, sound.height_least))
 
-pub source_length_is : (task : Task) → source_length task ≡ frame_length (desc_of task.source) task.width task.height
+-- the lengths of the frames of a task's conversion
+pub source_length_is : (task : Task) (conversion : Conversion) → IsConversionOf task conversion
+    → source_length task ≡ frame_length conversion.pair.from.desc conversion.width conversion.height
 unfolding source_length
-source_length_is task = refl
+source_length_is task conversion is = rw (is.pair, is.width, is.height) refl
 
-pub target_is : (task : Task) (source target : Desc) (frame out : List ℕ) → source ≡ desc_of task.source → target ≡ desc_of task.target
-    → out ≡ target_frame source target task.width task.height frame → out ≡ target_of task frame
+pub target_length_is : (task : Task) (conversion : Conversion) → IsConversionOf task conversion
+    → frame_length (desc_of task.target) task.width task.height ≡ frame_length conversion.pair.to.desc conversion.width conversion.height
+target_length_is task conversion is = rw (is.pair, is.width, is.height) refl
+
+-- its target frames are the task's
+pub target_is : (task : Task) (conversion : Conversion) (frame out : List ℕ) → IsConversionOf task conversion
+    → out ≡ target_frame conversion.pair conversion.width conversion.height frame → out ≡ target_of task frame
 unfolding target_of
-target_is task source target frame out es et e =
-    e ∙ ap (λ d. target_frame d target task.width task.height frame) es ∙ ap (λ d. target_frame (desc_of task.source) d task.width task.height frame) et
+target_is task conversion frame out is made = made ∙ rw (is.pair, is.width, is.height) refl
 
 pub at_end : (task : Task) (a b c : Option (List ℕ)) (k : ℕ) → 0 < source_length task → k ≤ 1000000 → HasTaken a b (k * source_length task) → Consumes b c [] → IsAtEnd c
     → IfSome a (λ x. (frame_count task x ≡ k) × (Done k ≡ cut_end task x))

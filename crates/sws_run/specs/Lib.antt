@@ -1,6 +1,8 @@
 pub mod Ending
+pub mod Evaluated
+pub mod Sides
 pub mod Line
-pub mod Meaning
+pub mod PackedRgb
+pub mod Conversion
 pub mod Stream
 pub mod Run
-pub mod Pixels

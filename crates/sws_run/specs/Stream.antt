@@ -6,7 +6,8 @@ use Rattle.sws_run.specs.declared.words.Task.{Task}
 use Rattle.sws_run.specs.declared.ended.Ended.{Ended}
 use Rattle.sws_run.specs.declared.ended.Ended.TheVariants.{Done, Stream, TooManyFrames}
 use Rattle.sws_run.specs.declared.ended.StreamFault.TheVariants.{Truncated}
-use Rattle.sws_run.specs.Meaning.{target_frame}
+use Rattle.pix_meaning.specs.Target.{target_frame}
+use Rattle.sws_run.specs.Sides.{pair_of}
 
 -- the length of a source frame
 unfoldable pub source_length : Task → ℕ
@@ -28,7 +29,7 @@ cut_end task bytes =
 
 -- the target frame of a frame of the input
 unfoldable pub target_of : Task → List ℕ → List ℕ
-target_of task frame = target_frame (desc_of task.source) (desc_of task.target) task.width task.height frame
+target_of task frame = target_frame (pair_of task) task.width task.height frame
 
 -- the target frames of the first k frames
 unfoldable pub target_frames : Task → List ℕ → ℕ → List ℕ

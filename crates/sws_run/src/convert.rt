@@ -1,109 +1,108 @@
-// A frame's pixels, one component after the other.
-ghost use Rattle.std.specs.Prelude.{◌≡◌, ◌+◌, ◌*◌, ◌<◌, ◌≤◌, pos, true, length, slice_index};
-ghost use Rattle.pix_desc.specs.Component.{component_of};
-ghost use Rattle.pix_desc.specs.Layouts.{IsValid};
+// The conversion of a frame, pixel after pixel.
+ghost use Rattle.std.specs.Prelude.{◌≡◌, ◌+◌, ◌*◌, ◌<◌, false, length, IfOk};
 ghost use Rattle.pix_desc.specs.Frame.{frame_length};
-ghost use Rattle.sws_run.specs.Meaning.{is_packed_rgb, target_frame};
-ghost use Rattle.sws_run.specs.Pixels.{SetsEach, pixel_bytes, byte_place, byte_value};
+ghost use Rattle.pix_meaning.specs.Pairs.{IsValidPair};
+ghost use Rattle.pix_meaning.specs.Target.{target_frame};
+ghost use Rattle.sws_run.specs.Evaluated.{IsEvaluated};
 
-use pix_desc::Desc;
+use frac_math::OutOfMemory;
+use op_build::{BuildFault, build, element_counts, element_type};
+use op_list::{OpList, PixType, Place, store_elements};
+use pix_meaning::Pair;
+use std::alloc::Global;
 
-const OPAQUE: u8 = 255;
-
-// The bytes of a pixel.
-fn pixel_bytes(desc: &Desc) -> usize
-    requires valid { IsValid desc.now }
-    requires packed { is_packed_rgb desc.now ≡ true }
-    ensures { result ≡ pixel_bytes desc.now }
-{
-    usize::from(desc.comps[0].step)
+/// The conversion of frames of one size, with its list of operations and the elements of a target pixel.
+#[derive(Drop)]
+pub struct Conversion {
+    pub pair: Pair,
+    /// In pixels.
+    pub width: u32,
+    /// In pixels.
+    pub height: u32,
+    pub list: OpList,
+    pub elem: PixType,
+    pub planes: [u8; 4],
 }
 
-// The byte of a pixel that a component is.
-fn byte_place(desc: &Desc, j: u8) -> usize
-    requires listed { j < 4 }
-    requires place { (component_of desc.now j).offset ≡ pos (byte_place desc.now j) }
-    ensures { result ≡ byte_place desc.now j }
-{
-    desc.comps[j as usize].offset as usize
-}
+impl Conversion {
+    ghost use Rattle.sws_run.specs.Conversion.{IsReady, IsConverted};
 
-// Sets one byte of each pixel to a byte of the source's pixel.
-fn copy_bytes(
-    input: &[u8],
-    from: usize,
-    from_step: usize,
-    output: &mut [u8],
-    to: usize,
-    to_step: usize,
-    count: usize,
-)
-    requires input { count * from_step ≤ length input.now }
-    requires output { count * to_step ≤ length output.old }
-    requires from { from < from_step }
-    requires to { to < to_step }
-    ensures { SetsEach count to_step to (λ x. slice_index input.now (x * from_step + from)) output.old output.new }
-{
-    for x in 0..count {
-        output[x * to_step + to] = input[x * from_step + from];
+    /// Builds the list of operations.
+    pub fn new(alloc: Global, pair: Pair, width: u32, height: u32) -> Result<Conversion, OutOfMemory>
+        requires valid { IsValidPair pair }
+        requires plain { pair.to.desc.palette ≡ false }
+        requires evaluated { IsEvaluated pair }
+        ensures ready { IfOk result IsReady }
+        ensures pair { IfOk result (λ conversion. conversion.pair ≡ pair) }
+        ensures width { IfOk result (λ conversion. conversion.width ≡ width) }
+        ensures height { IfOk result (λ conversion. conversion.height ≡ height) }
+    {
+        let list = match build(alloc, &pair) {
+            Ok(list) => list,
+            Err(BuildFault::OutOfMemory) => return Err(OutOfMemory),
+            Err(BuildFault::PaletteTarget) => unreachable!(),
+        };
+        let elem = element_type(&pair.to.desc);
+        let planes = element_counts(&pair.to.desc);
+        Ok(Conversion {
+            pair,
+            width,
+            height,
+            list,
+            elem,
+            planes,
+        })
     }
-}
 
-// Sets one byte of each pixel to a value.
-fn fill_bytes(value: u8, output: &mut [u8], to: usize, to_step: usize, count: usize)
-    requires output { count * to_step ≤ length output.old }
-    requires to { to < to_step }
-    ensures { SetsEach count to_step to (λ x. value) output.old output.new }
-{
-    for x in 0..count {
-        output[x * to_step + to] = value;
+    // Converts the pixel at column x of a row, where those before it are converted.
+    fn convert_pixel(&self, x: u32, row: u32, input: &[u8], output: &mut [u8])
+        requires ready { IsReady self.now }
+        requires column { x < self.now.width }
+        requires row { row < self.now.height }
+        requires input { length input.now ≡ frame_length self.now.pair.from.desc self.now.width self.now.height }
+        requires output { length output.old ≡ frame_length self.now.pair.to.desc self.now.width self.now.height }
+        requires before { IsConverted self.now input.now output.old (row * self.now.width + x) }
+        ensures size { length output.new ≡ length output.old }
+        ensures after { IsConverted self.now input.now output.new (row * self.now.width + x + 1) }
+    {
+        let place = Place {
+            width: self.width,
+            rows: self.height,
+            x,
+            row,
+            y: row,
+        };
+        let elements = self
+            .list
+            .run_pixel(input, self.width, self.height, x, row, row)
+            .unwrap();
+        store_elements(self.elem, &self.planes, &elements, &place, output);
     }
-}
 
-// Sets component `j` of each pixel.
-fn set_component(source: &Desc, target: &Desc, j: u8, input: &[u8], output: &mut [u8], count: usize)
-    requires source { is_packed_rgb source.now ≡ true }
-    requires source_valid { IsValid source.now }
-    requires target { is_packed_rgb target.now ≡ true }
-    requires target_valid { IsValid target.now }
-    requires listed { j < target.now.count }
-    requires input { length input.now ≡ count * pixel_bytes source.now }
-    requires output { length output.old ≡ count * pixel_bytes target.now }
-    ensures { SetsEach count (pixel_bytes target.now) (byte_place target.now j)
-        (byte_value source.now input.now j) output.old output.new }
-{
-    let to = byte_place(target, j);
-    let to_step = pixel_bytes(target);
-    if j < source.count {
-        let from = byte_place(source, j);
-        copy_bytes(input, from, pixel_bytes(source), output, to, to_step, count);
-    } else {
-        fill_bytes(OPAQUE, output, to, to_step, count);
+    // Converts a row, where those before it are converted.
+    fn convert_row(&self, row: u32, input: &[u8], output: &mut [u8])
+        requires ready { IsReady self.now }
+        requires row { row < self.now.height }
+        requires input { length input.now ≡ frame_length self.now.pair.from.desc self.now.width self.now.height }
+        requires output { length output.old ≡ frame_length self.now.pair.to.desc self.now.width self.now.height }
+        requires before { IsConverted self.now input.now output.old (row * self.now.width) }
+        ensures size { length output.new ≡ length output.old }
+        ensures after { IsConverted self.now input.now output.new ((row + 1) * self.now.width) }
+    {
+        for x in 0..self.width {
+            self.convert_pixel(x, row, input, output);
+        }
     }
-}
 
-/// Converts a frame of a packed RGB format to another.
-pub fn convert_frame(
-    source: &Desc,
-    target: &Desc,
-    width: u32,
-    height: u32,
-    input: &[u8],
-    output: &mut [u8],
-)
-    requires source { is_packed_rgb source.now ≡ true }
-    requires source_valid { IsValid source.now }
-    requires target { is_packed_rgb target.now ≡ true }
-    requires target_valid { IsValid target.now }
-    requires width { width ≤ 16384 }
-    requires height { height ≤ 16384 }
-    requires input { length input.now ≡ frame_length source.now width height }
-    requires output { length output.old ≡ frame_length target.now width height }
-    ensures { output.new ≡ target_frame source.now target.now width height input.now }
-{
-    let count = width as usize * height as usize;
-    output.fill(0);
-    for j in 0..target.count {
-        set_component(source, target, j, input, output, count);
+    /// Converts a frame.
+    pub fn convert_frame(&self, input: &[u8], output: &mut [u8])
+        requires ready { IsReady self.now }
+        requires input { length input.now ≡ frame_length self.now.pair.from.desc self.now.width self.now.height }
+        requires output { length output.old ≡ frame_length self.now.pair.to.desc self.now.width self.now.height }
+        ensures { output.new ≡ target_frame self.now.pair self.now.width self.now.height input.now }
+    {
+        for row in 0..self.height {
+            self.convert_row(row, input, output);
+        }
     }
 }

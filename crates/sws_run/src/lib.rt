@@ -1,14 +1,16 @@
-// The converter's run, from the words and bytes in to the bytes out.
+//! The converter's run, from the words and bytes in to the bytes out.
 #![tactic(auto)]
 
 mod convert;
 mod ended;
-pub mod meaning;
+mod laws;
 mod run;
+mod sides;
 mod top;
 mod words;
 
 pub use ended::{Ended, SideName, StreamFault, UsageFault};
+pub use laws::copies_packed;
 pub use top::{Gate, OpenGate, run_sws};
 
 #[cfg(test)]

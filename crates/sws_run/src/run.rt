@@ -3,13 +3,13 @@ ghost use Rattle.std.specs.Prelude.{◌≡◌, ◌<◌, ◌≤◌, length, Ok};
 ghost use Rattle.pix_desc.specs.Frame.{frame_length};
 ghost use Rattle.desc_table.specs.Format.{desc_of};
 ghost use Rattle.sws_run.specs.Line.{IsSound};
+ghost use Rattle.sws_run.specs.Conversion.{IsConversionOf};
 ghost use Rattle.sws_run.specs.Stream.{source_length};
 ghost use Rattle.sws_run.specs.Run.{GivesAnswer, GivesReadFault, GivesWriteFault, GivesOutOfMemory, IsComplete};
 
-use crate::convert::convert_frame;
+use crate::convert::Conversion;
 use crate::words::Task;
 use crate::{Ended, StreamFault};
-use desc_table::desc;
 use pix_io::{Got, Sink, Source, read_whole, write_all};
 
 const MAX_FRAMES: u32 = 1_000_000;
@@ -17,12 +17,14 @@ const MAX_FRAMES: u32 = 1_000_000;
 /// Converts the frames of the input one after the other, in a buffer for a source frame and one for its target frame.
 pub fn convert_frames<S: Source, K: Sink>(
     task: &Task,
+    conversion: &Conversion,
     input: &mut S,
     output: &mut K,
     frame: &mut [u8],
     target_frame: &mut [u8],
 ) -> Ended
     requires sound { IsSound task.now }
+    requires conversion { IsConversionOf task.now conversion.now }
     requires frame { length frame.old ≡ source_length task.now }
     requires target_frame { length target_frame.old ≡ frame_length (desc_of task.now.target) task.now.width task.now.height }
 
@@ -35,8 +37,6 @@ pub fn convert_frames<S: Source, K: Sink>(
     ensures complete { IsComplete (S.faults input.old) (S.faults input.new) (K.faults output.old) (K.faults output.new)
         (S.made_with input.old) (S.made_with input.new) (K.made_with output.old) (K.made_with output.new) result }
 {
-    let source = desc(task.source);
-    let target = desc(task.target);
     for done in 0..MAX_FRAMES {
         match read_whole(input, frame) {
             Ok(Got::Whole) => {}
@@ -49,14 +49,7 @@ pub fn convert_frames<S: Source, K: Sink>(
             }
             Err(_) => return Ended::ReadFault { frames: done },
         }
-        convert_frame(
-            &source,
-            &target,
-            task.width,
-            task.height,
-            frame,
-            target_frame,
-        );
+        conversion.convert_frame(frame, target_frame);
         match write_all(output, target_frame) {
             Ok(()) => {}
             Err(_) => return Ended::WriteFault { frames: done },

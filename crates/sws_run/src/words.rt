@@ -1,12 +1,12 @@
 // The command line: raw IN OUT WxH.
-ghost use Rattle.std.specs.Prelude.{◌≡◌, map, string_bytes, IfOk, IfErr};
+ghost use Rattle.std.specs.Prelude.{◌≡◌, ◌<◌, map, string_bytes, IfOk, IfErr};
 ghost use Rattle.desc_table.specs.Refused.{found};
 ghost use Rattle.sws_run.specs.Ending.{IsRefusal};
-ghost use Rattle.sws_run.specs.Line.{number_of, size_of, is_frame_size, packed, task_of, IsPackedFormat, IsSound};
+ghost use Rattle.desc_table.specs.Format.{format_count};
+ghost use Rattle.sws_run.specs.Line.{number_of, size_of, is_frame_size, named, task_of, IsSound};
 
-use crate::meaning::is_packed_rgb;
 use crate::{Ended, SideName, UsageFault};
-use desc_table::{FormatFault, FormatId, desc, find};
+use desc_table::{FormatId, desc, find};
 
 /// A conversion of raw frames that was asked for.
 #[derive(Clone, Copy, Debug, PartialEq, Eq)]
@@ -51,18 +51,14 @@ fn is_frame_size(width: u128, height: u128) -> bool
     (1..=16384).contains(&width) && (1..=16384).contains(&height) && width * height <= 33554432
 }
 
-// The format of a name, which is so far to be a packed RGB format.
-fn packed_format(side: SideName, name: &str) -> Result<FormatId, Ended>
-    ensures value { result ≡ packed side (found name.now) }
-    ensures sound { IfOk result IsPackedFormat }
+// The format of a name.
+fn format(side: SideName, name: &str) -> Result<FormatId, Ended>
+    ensures value { result ≡ named side (found name.now) }
+    ensures known { IfOk result (λ id. id < format_count) }
     ensures refusal { IfErr result IsRefusal }
 {
     match find(name) {
-        Ok(id) if is_packed_rgb(&desc(id)) => Ok(id),
-        Ok(_) => Err(Ended::Format {
-            side,
-            fault: FormatFault::OtherUnsupported,
-        }),
+        Ok(id) => Ok(id),
         Err(fault) => Err(Ended::Format { side, fault }),
     }
 }
@@ -85,9 +81,14 @@ pub fn read_task(words: &[String]) -> Result<Task, Ended>
     if !is_frame_size(width, height) {
         return Err(Ended::Usage(UsageFault::Size));
     }
+    let source = format(SideName::In, source.as_str())?;
+    let target = format(SideName::Out, target.as_str())?;
+    if desc(target).palette {
+        return Err(Ended::PaletteTarget);
+    }
     Ok(Task {
-        source: packed_format(SideName::In, source.as_str())?,
-        target: packed_format(SideName::Out, target.as_str())?,
+        source,
+        target,
         width: width as u32,
         height: height as u32,
     })

@@ -5,7 +5,7 @@ use Rattle.sws_run.specs.Stream.{source_length}
 use Rattle.sws_run.specs.declared.ended.Ended.TheVariants.{Done, Stream, TooManyFrames}
 use Rattle.sws_run.specs.declared.ended.StreamFault.TheVariants.{Truncated}
 use Rattle.sws_run.proofs.Taken.{HasTaken}
-use Rattle.sws_run.proofs.Stream.{ending_is, taken_none, frame_some, source_length_is, target_is, at_end, at_short, at_million, written_none, written_all, written_some, written_more, written_part, whole_taken, whole_frame}
+use Rattle.sws_run.proofs.Stream.{ending_is, taken_none, frame_some, source_length_is, target_is, target_length_is, at_end, at_short, at_million, written_none, written_all, written_some, written_more, written_part, whole_taken, whole_frame}
 use Rattle.sws_run.proofs.run.convert_frames.Goals as goal
 
 pub loop-done-init : goal.loop-done-init
@@ -65,7 +65,7 @@ returns-in-Err-write_all-clause-write_fault g c =
     let k = c.loop-done.done in
     let frame = c.read_whole.new.buf in
     let t = rw c.in-Ok-Whole.field-0-is at c.in-Ok-Whole.ensures.taken in
-    let is = target_is task _ _ frame c.convert_frame.new.output c.desc-source.ensures.value c.desc-target.ensures.value c.convert_frame.ensures in
+    let is = target_is task c.args.conversion.now frame c.convert_frame.new.output c.requires.conversion c.convert_frame.ensures in
     let part = c.in-Err-write_all.ensures.part_appended in
     record {
       cause = search rules;
@@ -81,7 +81,7 @@ loop-done-preserved g c =
     let k = c.loop-done.done in
     let frame = c.read_whole.new.buf in
     let t = rw c.in-Ok-Whole.field-0-is at c.in-Ok-Whole.ensures.taken in
-    let is = target_is task _ _ frame c.convert_frame.new.output c.desc-source.ensures.value c.desc-target.ensures.value c.convert_frame.ensures in
+    let is = target_is task c.args.conversion.now frame c.convert_frame.new.output c.requires.conversion c.convert_frame.ensures in
     let here = whole_frame task _ _ _ k frame (frame_some task c.requires.sound) c.loop-done-test.true (omega arith) c.loop-done.invariant.taken t in
     record {
       taken = whole_taken task _ _ _ k frame (omega arith) c.loop-done.invariant.taken t;
@@ -128,8 +128,11 @@ returns-in-Err-read_whole-clause-read_fault g c =
       output = written_some task _ _ _ _ 1000000 (frame_some task c.requires.sound) (omega arith) (rw k at c.loop-done.invariant.taken) (rw k at c.loop-done.invariant.written);
     }
 
+pub convert_frame-requires-clause-ready : goal.convert_frame-requires-clause-ready
+convert_frame-requires-clause-ready g c = c.requires.conversion.ready
+
 pub convert_frame-requires-clause-input : goal.convert_frame-requires-clause-input
-convert_frame-requires-clause-input g c =
-    let task = c.args.task.now in
-    let same = ap (λ d. frame_length d task.width task.height) c.desc-source.ensures.value in
-    omega (arith, source_length_is task, same)
+convert_frame-requires-clause-input g c = omega (arith, source_length_is c.args.task.now c.args.conversion.now c.requires.conversion)
+
+pub convert_frame-requires-clause-output : goal.convert_frame-requires-clause-output
+convert_frame-requires-clause-output g c = omega (arith, target_length_is c.args.task.now c.args.conversion.now c.requires.conversion)

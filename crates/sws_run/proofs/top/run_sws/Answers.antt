@@ -26,3 +26,6 @@ pub convert_frames-requires-clause-frame : goal.convert_frames-requires-clause-f
 unfolding source_length
 convert_frames-requires-clause-frame g c = ap length c.deref_mut.ensures.value ∙ c.in-Ok-zeros.ensures ∙ c.frame_len-source_length.ensures.value
     ∙ ap (λ d. frame_length d c.in-Ok.task.width c.in-Ok.task.height) c.desc.ensures.value
+
+pub returns-in_default-zeros-2-clause-memory : goal.returns-in_default-zeros-2-clause-memory
+returns-in_default-zeros-2-clause-memory g c = early_memory _ (g.S.Source.left c.args.input.now) (g.K.Sink.written c.args.output.now)

@@ -21,8 +21,7 @@ use Rattle.pix_meaning.specs.Values.{entry_component, source_component, source_v
 use Rattle.pix_meaning.specs.Target.{result_of, target_rows}
 use Rattle.pix_meaning.proofs.Passing.{passes_codes}
 use Rattle.pix_meaning.proofs.TargetLaws.{keeps_codes}
-use Rattle.sws_run.specs.Meaning.{is_packed_rgb, IsMeantByPair}
-use Rattle.sws_run.specs.Meaning as packed
+use Rattle.sws_run.specs.PackedRgb.{is_packed_rgb, copied, copied_frame, CopiesPacked}
 use Rattle.sws_run.proofs.Packed.{IsPacked, packed_parts, is_byte}
 
 -- three components, or four with alpha
@@ -143,10 +142,10 @@ agrees pair width height frame j x y true valid from to listed test =
     code_passes pair width height frame j x y valid from to (ltb-true j pair.from.desc.count test) listed ∙ reads_plain pair.from.desc width height frame j x y from.parts
 agrees pair width height frame j x y false valid from to listed test = opaque_result pair width height frame j x y from to (ltb-false j pair.from.desc.count test) listed
 
-pub meant : (pair : Pair) (width height : ℕ) (frame : List ℕ) → IsMeantByPair pair width height frame
-unfolding target_rows packed.target_frame
-meant pair width height frame = λ valid test test'.
+pub copies_packed : (pair : Pair) (width height : ℕ) (frame : List ℕ) → CopiesPacked pair width height frame
+unfolding target_rows copied_frame
+copies_packed pair width height frame = λ valid test test'.
     let from = has_colours pair.from.desc valid.from test in
     let to = has_colours pair.to.desc valid.to test' in
-    agreeing_frames pair.to.desc width height (result_of pair width height 0 frame) (packed.wanted pair.from.desc width height frame)
+    agreeing_frames pair.to.desc width height (result_of pair width height 0 frame) (copied pair.from.desc width height frame)
     (λ j x y listed across down. agrees pair width height frame j x y (nat_lt j pair.from.desc.count) valid from to listed refl)
