@@ -20,19 +20,19 @@ bytes_positive U16 h = omega arith
 bytes_positive U32 h = omega arith
 bytes_positive Rat h = cc
 
--- the element, and all before it, lie in the frame
-pub element_within : (pixels pixel before n rest total size : ℕ) → pixel < pixels → rest < n → before + n ≤ total → 1 ≤ size
-    → (pixels * before + pixel * n + rest + 1) * size ≤ pixels * total * size
-element_within pixels pixel before n rest total size p q r s =
+-- an element of a pixel is one of the frame's
+pub element_within : (pixels pixel before n rest total : ℕ) → pixel < pixels → rest < n → before + n ≤ total → pixels * before + pixel * n + rest < pixels * total
+element_within pixels pixel before n rest total p q r =
     let row : pixel * n + rest < n * pixels = mul-add-lt pixel n rest pixels p q in
     let all : pixels * (before + n) ≤ pixels * total = mul-le-mul_left pixels r in
-    let within : pixels * before + pixel * n + rest + 1 ≤ pixels * total = omega (arith, row, all) in
-    mul-le-mul_right size within
+    omega (arith, row, all)
 
--- the number of an element is below the bytes of the frame
-pub element_below : (k size bytes : ℕ) → 1 ≤ size → (k + 1) * size ≤ bytes → k < bytes
-element_below k size bytes p q =
-    let t : (k + 1) * 1 ≤ (k + 1) * size = mul-le-mul_left (k + 1) p in omega (arith, t)
+-- an element of the frame lies in its bytes
+pub element_ends : (elem : PixType) (planes frame : List ℕ) (place : Place) (k : ℕ) → HasElements elem planes frame place → k < pixel_count place * sum planes
+    → (k + 1) * bytes elem ≤ length frame
+element_ends elem planes frame place k h below =
+    let ends : (k + 1) * bytes elem ≤ pixel_count place * sum planes * bytes elem = mul-le-mul_right (bytes elem) (omega (arith, below)) in
+    omega (arith, ends, h.size)
 
 -- ---- what a good Read says
 counts_few : (most : ℕ) (ns : List ℕ) → are_counts most ns ≡ true → (sum ns ≤ most) × (1 ≤ sum ns)
@@ -65,13 +65,13 @@ has_palette elem planes frame place h =
     size_of Rat s planes e all pixels h = cc
 
 -- ---- the elements in the order of the planes
-sum-cons : (n : ℕ) (ns : List ℕ) → sum (n ∷ ns) ≡ n + sum ns
+pub sum-cons : (n : ℕ) (ns : List ℕ) → sum (n ∷ ns) ≡ n + sum ns
 sum-cons n ns = sum_by-cons (λ x. x) n ns
 
-in_first : (pixels pixel before n i : ℕ) (planes : List ℕ) → i < n → element_in pixels pixel before (n ∷ planes) i ≡ pixels * before + pixel * n + i
+pub in_first : (pixels pixel before n i : ℕ) (planes : List ℕ) → i < n → element_in pixels pixel before (n ∷ planes) i ≡ pixels * before + pixel * n + i
 in_first pixels pixel before n i planes h = sym (cond_below i n (pixels * before + pixel * n + i) (element_in pixels pixel (before + n) planes (i - n)) h)
 
-in_rest : (pixels pixel before n i : ℕ) (planes : List ℕ) → n ≤ i → element_in pixels pixel before (n ∷ planes) i ≡ element_in pixels pixel (before + n) planes (i - n)
+pub in_rest : (pixels pixel before n i : ℕ) (planes : List ℕ) → n ≤ i → element_in pixels pixel before (n ∷ planes) i ≡ element_in pixels pixel (before + n) planes (i - n)
 in_rest pixels pixel before n i planes h =
     let rest = element_in pixels pixel (before + n) planes (i - n) in
     sym (cond_above i n (pixels * before + pixel * n + i) rest rest h refl)

@@ -5,6 +5,8 @@ pub mod Exact
 pub mod Fields
 pub mod Fitting
 pub mod Four
+pub mod Indices
 pub mod Ordered
 pub mod Pushed
 pub mod Steps
+pub mod Stored

@@ -4,6 +4,7 @@ pub mod Fits
 pub mod Laws
 pub mod Pixel
 pub mod Run
+pub mod Store
 pub mod Types
 pub mod Typing
 pub mod Values

@@ -1,5 +1,6 @@
 // The laws of the definitions, each the contract of a function.
 ghost use Rattle.op_list.specs.Laws.{AppliesExactly, RunsExactly, AppliesWhereItFits, RunsWhereItFits, RunsInParts, ReadsInOrder};
+ghost use Rattle.op_list.specs.Store.{ElementsMakeFrame};
 
 use crate::list::OpList;
 
@@ -31,6 +32,11 @@ pub fn runs_in_parts()
 /// The elements of a pixel stand in the order of its planes.
 pub fn reads_in_order()
     ensures { ReadsInOrder }
+{}
+
+/// The elements of all pixels determine a frame.
+pub fn elements_make_frame()
+    ensures { ElementsMakeFrame }
 {}
 
 /// Lists may cross threads, and be shared by them.

@@ -12,6 +12,7 @@ mod op;
 mod place;
 mod read;
 mod run;
+mod store;
 #[cfg(test)]
 mod tests;
 mod types;
@@ -20,9 +21,11 @@ mod values;
 
 pub use fault::PushFault;
 pub use laws::{
-    applies_exactly, applies_where_it_fits, crosses_threads, reads_in_order, runs_exactly,
-    runs_in_parts, runs_where_it_fits,
+    applies_exactly, applies_where_it_fits, crosses_threads, elements_make_frame, reads_in_order,
+    runs_exactly, runs_in_parts, runs_where_it_fits,
 };
 pub use list::{MOST_OPERATIONS, OpList};
 pub use op::Op;
+pub use place::Place;
+pub use store::store_elements;
 pub use types::{PixType, Stage};

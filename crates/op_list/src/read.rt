@@ -44,19 +44,10 @@ fn element_of(elem: PixType, planes: &[u8; 4], frame: &[u8], place: &Place, i: u
     requires { HasElements elem planes.now frame.now place.now }
     ensures { result ≡ element_of elem planes.now frame.now place.now i }
 {
-    let pixels = place.pixel_count();
-    let pixel = place.pixel_number();
-    let mut before = 0;
-    let mut rest = i;
-    for n in planes {
-        let n = usize::from(*n);
-        if rest < n {
-            return element(elem, frame, pixels * before + pixel * n + rest);
-        }
-        before += n;
-        rest -= n;
+    match place.element_index(planes, i) {
+        Some(k) => element(elem, frame, k),
+        None => 0,
     }
-    0
 }
 
 // Element k of a frame: a little-endian number.
