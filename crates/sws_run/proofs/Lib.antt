@@ -5,3 +5,7 @@ pub mod Refused
 pub mod Packed
 pub mod Filled
 pub mod Meant
+pub mod Members
+pub mod NamedMatrices
+pub mod TableClasses
+pub mod Evaluated

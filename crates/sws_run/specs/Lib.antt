@@ -4,3 +4,4 @@ pub mod Meaning
 pub mod Stream
 pub mod Run
 pub mod Pixels
+pub mod Evaluated

@@ -3,12 +3,14 @@
 
 mod convert;
 mod ended;
+mod laws;
 pub mod meaning;
 mod run;
 mod top;
 mod words;
 
 pub use ended::{Ended, SideName, StreamFault, UsageFault};
+pub use laws::every_pair_is_evaluated;
 pub use top::{Gate, OpenGate, run_sws};
 
 #[cfg(test)]
