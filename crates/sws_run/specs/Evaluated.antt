@@ -1,11 +1,11 @@
--- The checked evaluation of every pixel has an answer.
-use Rattle.std.specs.Prelude.{◌≡◌, ◌<◌, ℕ, List, Option, Some, All}
+-- That the checked evaluation of a pair of formats of the table has an answer at every pixel.
+use Rattle.std.specs.Prelude.{◌≡◌, ◌<◌, ℕ, List, All, Some}
 use Rattle.colour_matrix.specs.declared.class.Range.{Range}
 use Rattle.colour_matrix.specs.declared.matrix.Matrix.{Matrix}
 use Rattle.colour_matrix.specs.Matrix.{matrix_named}
+use Rattle.desc_table.specs.Format.{desc_of}
 use Rattle.pix_meaning.specs.declared.pair.Side.{Side}
 use Rattle.pix_meaning.specs.declared.pair.Pair.{Pair}
-use Rattle.desc_table.specs.Format.{desc_of}
 use Rattle.op_list.specs.Run.{run, checked_run}
 use Rattle.op_build.specs.Recipe.{recipe}
 
