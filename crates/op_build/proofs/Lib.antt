@@ -40,6 +40,7 @@ pub mod Depths
 pub mod BoundFractions
 pub mod BoundSteps
 pub mod BoundClasses
+pub mod LevelSizes
 pub mod Means
 pub mod BoundPairs
 pub mod BoundRuns

@@ -4,3 +4,4 @@ pub mod Codes
 pub mod Meaning
 pub mod Bounds
 pub mod BoundClasses
+pub mod LevelSizes

@@ -6,6 +6,7 @@
 #![tactic(auto)]
 
 mod channel;
+mod code_values;
 mod colour;
 mod elements;
 mod laws;
@@ -15,6 +16,7 @@ mod places;
 mod rows;
 mod shape;
 mod sources;
+mod split;
 mod word;
 
 pub use laws::{
