@@ -12,7 +12,7 @@ use Rattle.pix_desc.specs.declared.desc.Desc.{Desc}
 use Rattle.pix_desc.specs.Component.{components, component_of, no_component, is_narrow, bytes_read, first_byte, count_of, bit_place}
 use Rattle.pix_desc.specs.Frame.{plane_step}
 use Rattle.pix_desc.specs.Layouts.{IsLaidOut, is_elements, some_pair, one_a_plane}
-use Rattle.pix_desc.proofs.Components.{some_pair-false, list_all-map_true, get_or-components, length-components}
+use Rattle.pix_desc.proofs.ComponentLists.{some_pair-false, list_all-map_true, get_or-components, length-components}
 use Rattle.pix_desc.proofs.BitsOfBytes.{byte_of}
 use Rattle.pix_desc.proofs.FramePlaces.{bit_place_is}
 use Rattle.op_build.specs.Shape.{element_bytes, element_counts, element_index, element_slot, slots, fields}

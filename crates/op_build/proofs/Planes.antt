@@ -10,7 +10,7 @@ use Rattle.pix_desc.specs.declared.desc.Desc.{Desc}
 use Rattle.pix_desc.specs.Component.{components, component_of, no_component, bytes_read}
 use Rattle.pix_desc.specs.Frame.{step_in, plane_step}
 use Rattle.pix_desc.specs.Layouts.{IsLaidOut, some_component, one_a_plane, has_all_planes}
-use Rattle.pix_desc.proofs.Components.{list_all-map_true, list_all-below_true, some_component-at, get_or-components, length-components}
+use Rattle.pix_desc.proofs.ComponentLists.{list_all-map_true, list_all-below_true, some_component-at, get_or-components, length-components}
 
 -- a number of the first component in a plane, and 0 where none lies in it
 abbrev pub first_in : (Comp → ℕ) → ℕ → List Comp → ℕ

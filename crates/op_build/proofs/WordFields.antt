@@ -10,7 +10,7 @@ use Rattle.pix_desc.specs.declared.desc.Comp.{Comp}
 use Rattle.pix_desc.specs.declared.desc.Desc.{Desc}
 use Rattle.pix_desc.specs.Component.{component_of}
 use Rattle.pix_desc.specs.Layouts.{word_shift, is_spare, begins_spare, some_component}
-use Rattle.pix_desc.proofs.Components.{some_component-false, some_component-at}
+use Rattle.pix_desc.proofs.ComponentLists.{some_component-false, some_component-at}
 use Rattle.op_build.specs.Shape.{Field, end_of, end_below, field_for, field_below}
 use Rattle.op_build.proofs.Lists.{get_or-range, found_passes, none_passes}
 use Rattle.op_build.proofs.Ranges.{count_below_more, count_below_le, count_weaker, count_more}

@@ -12,7 +12,7 @@ use Rattle.pix_desc.specs.declared.desc.Desc.{Desc}
 use Rattle.pix_desc.specs.Component.{components, component_of, bytes_read}
 use Rattle.pix_desc.specs.Frame.{plane_step}
 use Rattle.pix_desc.specs.Layouts.{IsLaidOut, is_elements, is_word, one_a_plane, begins_spare, has_all_planes}
-use Rattle.pix_desc.proofs.Components.{list_all-map_true}
+use Rattle.pix_desc.proofs.ComponentLists.{list_all-map_true}
 use Rattle.op_list.specs.Typing.{are_counts}
 use Rattle.op_list.specs.Values.{four}
 use Rattle.op_build.specs.Shape.{Field, element_bytes, element_counts, element_slot, end_of, fields, field_widths, no_field, slots}

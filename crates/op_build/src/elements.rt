@@ -4,9 +4,9 @@ ghost use Rattle.std.specs.List.{range_with_len, find};
 ghost use Rattle.pix_desc.specs.Layouts.{IsValid};
 ghost use Rattle.op_build.specs.Shape.{element_index, element_slot};
 
-use crate::shape::{element_bytes, element_counts, first_place};
+use crate::shape::{element_bytes, element_counts};
 use crate::word::component_of;
-use pix_desc::Desc;
+use pix_desc::{Desc, first_place};
 
 /// The sum of the counts of the planes before one.
 pub fn total_before(counts: &[u8; 4], plane: u8) -> u16

@@ -1,12 +1,11 @@
 // How the pixels of a format are taken as up to four numbers: the elements of its planes, or the fields of one word.
 ghost use Rattle.std.specs.Prelude.{◌≡◌, ◌≤◌, take, length};
-ghost use Rattle.pix_desc.specs.Component.{components, component_of, bytes_read, count_of, first_byte};
 ghost use Rattle.pix_desc.specs.Frame.{step_in, plane_step};
 ghost use Rattle.pix_desc.specs.Layouts.{IsValid, is_elements, word_shift};
 ghost use Rattle.op_build.specs.Shape.{element_bytes, element_type, element_counts, is_swapped};
 
 use op_list::PixType;
-use pix_desc::{Comp, Desc, Layout, check};
+use pix_desc::{Comp, Desc, Layout, bytes_read, check, components};
 
 /// Whether the pixels of a format that passes the check are elements.
 pub fn is_elements(desc: &Desc) -> bool
@@ -17,52 +16,6 @@ pub fn is_elements(desc: &Desc) -> bool
         Ok(Layout::Elements) => true,
         Ok(Layout::Word) => false,
         Err(_) => false,
-    }
-}
-
-/// The components that the descriptor has.
-pub fn components(desc: &Desc) -> &[Comp]
-    requires { desc.now.count ≤ 4 }
-    ensures { result.now ≡ components desc.now }
-{
-    first_of(&desc.comps, desc.count)
-}
-
-// The first of four components.
-fn first_of(comps: &[Comp; 4], count: u8) -> &[Comp]
-    requires { count ≤ 4 }
-    ensures first { result.now ≡ take count comps.now }
-    ensures four { length comps.now ≡ 4 }
-{
-    &comps[..usize::from(count)]
-}
-
-/// How many bytes the component is read from, 1 or 2.
-pub fn bytes_read(comp: &Comp) -> u8
-    ensures { result ≡ bytes_read comp.now }
-{
-    if u16::from(comp.shift) + u16::from(comp.depth) <= 8 {
-        1
-    } else {
-        2
-    }
-}
-
-/// The first byte that the component is read from, and 0 where it lies before the pixel.
-pub fn first_place(desc: &Desc, comp: &Comp) -> u16
-    ensures { result ≡ count_of (first_byte desc.now comp.now) }
-{
-    first_byte(desc, comp).max(0) as u16
-}
-
-fn first_byte(desc: &Desc, comp: &Comp) -> i16
-    ensures { result ≡ first_byte desc.now comp.now }
-{
-    let offset = i16::from(comp.offset);
-    if desc.be && bytes_read(comp) == 1 {
-        offset + 1
-    } else {
-        offset
     }
 }
 

@@ -2,11 +2,9 @@
 ghost use Rattle.std.specs.Prelude.{◌≡◌, ◌-◌, ◌<◌, ◌≤◌, ℕ, nat_eq, slice_index_or};
 ghost use Rattle.std.specs.List.{range_with_len, find};
 ghost use Rattle.pix_desc.specs.Component.{component_of};
-ghost use Rattle.pix_desc.specs.Layouts.{word_shift};
 ghost use Rattle.op_build.specs.Shape.{end_of, end_below, field_below, fields_below, no_field};
 
-use crate::shape::{bytes_read, first_place};
-use pix_desc::{Comp, Desc};
+use pix_desc::{Comp, Desc, word_shift};
 
 /// A field: its width in bits, and the component that it holds, or none where it is spare.
 #[derive(Clone, Copy, Debug, PartialEq, Eq)]
@@ -29,21 +27,6 @@ pub fn component_of(desc: &Desc, j: u8) -> Comp
             depth: 0,
         },
     }
-}
-
-// The lowest bit of a component in its pixel, taken as one number in the format's byte order.
-fn word_shift(desc: &Desc, comp: &Comp) -> u16
-    ensures { result ≡ word_shift desc.now comp.now }
-{
-    let first = first_place(desc, comp);
-    let bytes_below = if desc.be {
-        u16::from(comp.step)
-            .saturating_sub(first)
-            .saturating_sub(u16::from(bytes_read(comp)))
-    } else {
-        first
-    };
-    8 * bytes_below + u16::from(comp.shift)
 }
 
 // The bit of the word at which a component ends.

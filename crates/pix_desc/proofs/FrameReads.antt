@@ -12,7 +12,7 @@ use Rattle.pix_desc.specs.declared.desc.Desc.{Desc}
 use Rattle.pix_desc.specs.Component.{components, component_of, is_narrow, bytes_read, first_byte, count_of, bit_place, reads_bit, bit_of}
 use Rattle.pix_desc.specs.Frame.{plane_step, step_in, row_start, frame_component, reads_pixel_bit}
 use Rattle.pix_desc.specs.Layouts.{IsLaidOut}
-use Rattle.pix_desc.proofs.Components.{get_or-components, length-components}
+use Rattle.pix_desc.proofs.ComponentLists.{get_or-components, length-components}
 use Rattle.pix_desc.proofs.BitsOfBytes.{bits_of, byte_of, byte_of_below}
 use Rattle.pix_desc.proofs.FramePlaces.{place_of, same_place, fits_bits, frame_bit}
 

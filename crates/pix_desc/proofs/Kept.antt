@@ -13,7 +13,7 @@ use Rattle.pix_desc.specs.declared.desc.Desc.{Desc}
 use Rattle.pix_desc.specs.Component.{component_of, component, count_of, first_byte, is_narrow, bit_of, bit_place, reads_row_bit, KeepsOtherBits}
 use Rattle.pix_desc.specs.Frame.{plane_step}
 use Rattle.pix_desc.specs.Layouts.{IsValid}
-use Rattle.pix_desc.proofs.Components.{list_any-below_at}
+use Rattle.pix_desc.proofs.ComponentLists.{list_any-below_at}
 use Rattle.pix_desc.proofs.Places.{component-bit, bit_place-is, bits_within, place_in, place_in-lt, width_of}
 use Rattle.pix_desc.proofs.Valid.{laid_out}
 

@@ -1,6 +1,6 @@
 pub mod Bits
 pub mod ReplacedBits
-pub mod Components
+pub mod ComponentLists
 pub mod Kept
 pub mod Pairs
 pub mod Places

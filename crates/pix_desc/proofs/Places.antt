@@ -10,7 +10,7 @@ use Rattle.pix_desc.specs.declared.desc.Comp.{Comp}
 use Rattle.pix_desc.specs.declared.desc.Desc.{Desc}
 use Rattle.pix_desc.specs.Component.{is_narrow, bytes_read, first_byte, count_of, start_of, number_at, bit_of, bit_place, reads_bit}
 use Rattle.pix_desc.proofs.Bits.{bit_at_field}
-use Rattle.pix_desc.proofs.Components.{list_any-below_false}
+use Rattle.pix_desc.proofs.ComponentLists.{list_any-below_false}
 
 -- the number in one byte, or in two of either order
 abbrev pub number_of : Bool → Bool → ℕ → ℕ → ℕ

@@ -13,7 +13,7 @@ use Rattle.pix_desc.specs.declared.desc.DescFault.TheVariants.{ComponentCount, D
 use Rattle.pix_desc.specs.Component.{no_component, components, component_of, bytes_read, first_byte, bit_place, reads_bit, count_of, start_of}
 use Rattle.pix_desc.specs.Frame.{plane_step}
 use Rattle.pix_desc.specs.Layouts.{IsValid, IsLaidOut, checked, is_count, some_component, some_pair, is_depth, overlap, is_inside, differ_in_step, is_elements, is_word, is_index, is_mixed, has_all_planes}
-use Rattle.pix_desc.proofs.Components.{list_any-below_false, list_all-below_true, list_all-map_true, length-components, get_or-components, some_component-false, some_component-at, some_pair-false, step_in-plane}
+use Rattle.pix_desc.proofs.ComponentLists.{list_any-below_false, list_all-below_true, list_all-map_true, length-components, get_or-components, some_component-false, some_component-at, some_pair-false, step_in-plane}
 
 -- no fault's test holds of the descriptor
 pub record HasNoFault (desc : Desc) : Type 0 where

@@ -25,7 +25,7 @@ fn has_one_plane(comps: &[Comp]) -> bool
 }
 
 /// The lowest bit of a component in its pixel, taken as one number in the format's byte order.
-fn word_shift(desc: &Desc, comp: &Comp) -> u16
+pub fn word_shift(desc: &Desc, comp: &Comp) -> u16
     ensures { result ≡ word_shift desc.now comp.now }
 {
     let first = first_place(desc, comp);

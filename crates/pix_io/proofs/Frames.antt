@@ -4,7 +4,7 @@ use Rattle.std.proofs.Math.Nat.{mul-le-mul_left}
 use Rattle.std.proofs.Math.Seq.{drop-cons}
 use Rattle.pix_desc.specs.declared.desc.Desc.{Desc}
 use Rattle.pix_desc.specs.Component.{components, component_of, no_component}
-use Rattle.pix_desc.proofs.Components.{length-components, get_or-components}
+use Rattle.pix_desc.proofs.ComponentLists.{length-components, get_or-components}
 use Rattle.pix_desc.specs.Frame.{step_in, plane_start, row_length, frame_length, row_start}
 
 -- the step of a plane among the components from one on is that component's, or the step among those behind it

@@ -10,7 +10,7 @@ use Rattle.pix_desc.specs.declared.desc.Desc.{Desc}
 use Rattle.pix_desc.specs.Component.{components, component_of, no_component, is_narrow, bytes_read, first_byte, start_of, number_at, bit_place}
 use Rattle.pix_desc.specs.Frame.{step_in, plane_step, plane_start, frame_length, row_start, frame_component}
 use Rattle.pix_desc.specs.Layouts.{IsLaidOut}
-use Rattle.pix_desc.proofs.Components.{list_all-true, get_or-components, length-components}
+use Rattle.pix_desc.proofs.ComponentLists.{list_all-true, get_or-components, length-components}
 use Rattle.sws_run.specs.PackedRgb.{is_whole_byte, is_packed_rgb}
 
 -- what the test says

@@ -1,5 +1,5 @@
 use Rattle.std.proofs.Common.{length, ap, arith}
-use Rattle.pix_desc.proofs.Components.{length-components}
+use Rattle.pix_desc.proofs.ComponentLists.{length-components}
 use Rattle.pix_desc.proofs.layout.is_elements.Goals as goal
 
 pub element_count-requires : goal.element_count-requires

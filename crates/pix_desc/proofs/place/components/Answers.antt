@@ -1,5 +1,5 @@
 use Rattle.std.proofs.Common.{◌≡◌, ◌∙◌, ap, take, length, rules}
-use Rattle.pix_desc.proofs.Components.{take-comps}
+use Rattle.pix_desc.proofs.ComponentLists.{take-comps}
 use Rattle.pix_desc.proofs.place.components.Goals as goal
 
 pub returns : goal.returns
