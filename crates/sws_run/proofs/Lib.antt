@@ -7,5 +7,5 @@ pub mod Members
 pub mod NamedMatrices
 pub mod TableClasses
 pub mod Evaluated
-pub mod Sides
+pub mod TaskPairs
 pub mod Converted

@@ -1,7 +1,7 @@
 use Rattle.std.proofs.Common.{sym, subst}
 use Rattle.pix_meaning.specs.Pairs.{IsValidPair}
 use Rattle.sws_run.specs.Evaluated.{IsEvaluated}
-use Rattle.sws_run.proofs.Sides.{pair_is_valid, pair_is_evaluated}
+use Rattle.sws_run.proofs.TaskPairs.{pair_is_valid, pair_is_evaluated}
 use Rattle.sws_run.proofs.top.conversion_of.Goals as goal
 
 pub new-requires-clause-valid : goal.new-requires-clause-valid
