@@ -35,14 +35,14 @@ use Rattle.op_build.proofs.FieldValues.{element_field}
 use Rattle.op_build.proofs.Lists.{same_fours}
 
 -- The one component of a palette format is a byte a pixel.
-record IsByte (desc : Desc) : Type 0 where
-  order : desc.be ≡ false
-  plane : (component_of desc 0).plane ≡ 0
-  step : (component_of desc 0).step ≡ 1
-  first : count_of (first_byte desc (component_of desc 0)) ≡ 0
-  shift : (component_of desc 0).shift ≡ 0
-  depth : (component_of desc 0).depth ≡ 8
-  read : bytes_read (component_of desc 0) ≡ 1
+pub record IsByte (desc : Desc) : Type 0 where
+  pub order : desc.be ≡ false
+  pub plane : (component_of desc 0).plane ≡ 0
+  pub step : (component_of desc 0).step ≡ 1
+  pub first : count_of (first_byte desc (component_of desc 0)) ≡ 0
+  pub shift : (component_of desc 0).shift ≡ 0
+  pub depth : (component_of desc 0).depth ≡ 8
+  pub read : bytes_read (component_of desc 0) ≡ 1
 
 abbrev is_byte : Comp → Bool
 is_byte c = nat_eq c.plane 0 && nat_eq c.step 1 && int_eq c.offset (pos 0) && nat_eq c.shift 0 && nat_eq c.depth 8
@@ -54,7 +54,7 @@ first_of : (desc : Desc) (c : Comp) → desc.be ≡ false → int_eq c.offset (p
 first_of desc c order at =
     ap count_of (cond-false (desc.be && is_narrow c) (c.offset +ℤ pos 1) c.offset (and_left desc.be (is_narrow c) order)) ∙ ap count_of ((Decides-int_eq c.offset (pos 0)).0 at)
 
-is_byte_format : (desc : Desc) → IsValid desc → desc.palette ≡ true → IsByte desc
+pub is_byte_format : (desc : Desc) → IsValid desc → desc.palette ≡ true → IsByte desc
 is_byte_format desc valid palette =
     let passed = has_no_fault desc valid in
     let mixed = (or_parts (some_pair desc differ_in_step || not (is_elements desc || is_word desc)) (desc.palette && not (is_index desc)) passed.unmixed).1 in

@@ -66,7 +66,7 @@ module _ (desc : Desc) (size : ℕ) (laid : IsLaidOut desc) (is : HasElements de
       omega (arith, div-add-mod' (plane_step desc plane) size, ap (λ s. s % size) step, is.step at.0 at.1))
       (eq-zero-or-pos (plane_step desc plane))
 
-  plane_start_is : (width rows plane : ℕ) → plane ≤ 4 → plane_start desc width rows plane ≡ width * rows * (sum (take plane (element_counts desc)) * size)
+  pub plane_start_is : (width rows plane : ℕ) → plane ≤ 4 → plane_start desc width rows plane ≡ width * rows * (sum (take plane (element_counts desc)) * size)
   plane_start_is width rows zero within = omega arith
   plane_start_is width rows (suc plane) within =
       let before = sum (take plane (element_counts desc)) in

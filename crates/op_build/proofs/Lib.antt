@@ -45,3 +45,7 @@ pub mod Means
 pub mod BoundPairs
 pub mod BoundRuns
 pub mod BoundFrames
+pub mod Fronts
+pub mod StepLists
+pub mod ReadLengths
+pub mod Frames

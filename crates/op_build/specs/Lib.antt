@@ -5,3 +5,5 @@ pub mod Meaning
 pub mod Bounds
 pub mod BoundClasses
 pub mod LevelSizes
+pub mod Steps
+pub mod Frames

@@ -1,11 +1,13 @@
 // The laws of the recipe, each the contract of a function.
-ghost use Rattle.std.specs.Prelude.{◌≡◌, ℕ, List};
+ghost use Rattle.std.specs.Prelude.{◌≡◌, true, false, ℕ, List};
 ghost use Rattle.pix_desc.specs.declared.desc.Desc.{Desc};
 ghost use Rattle.op_list.specs.declared.place.Place.{Place};
 ghost use Rattle.pix_meaning.specs.declared.pair.Pair.{Pair};
 ghost use Rattle.pix_meaning.specs.Pairs.{IsValidPair};
-ghost use Rattle.op_list.specs.Typing.{IsOpList};
+ghost use Rattle.pix_desc.specs.Layouts.{IsValid};
+ghost use Rattle.op_list.specs.Typing.{IsOpList, ends_with_write};
 ghost use Rattle.op_build.specs.Meaning.{MeansItsTarget, CheckedIsThere};
+ghost use Rattle.op_build.specs.Frames.{ReadsFrames, FillsFrames};
 ghost use Rattle.op_build.specs.Codes.{GivesCodes, IsWholeTyped};
 ghost use Rattle.op_build.specs.Recipe.{recipe};
 
@@ -32,4 +34,19 @@ pub fn recipe_means_target()
 /// Where the sides are of the classes of the table, the checked evaluation of the list has an answer, which is the exact one.
 pub fn checked_recipe_is_exact()
     ensures { (pair : Pair) → CheckedIsThere pair }
+{}
+
+/// The list of a valid pair reads whole frames of the source format.
+pub fn recipe_reads_frames()
+    ensures { (pair : Pair) → ReadsFrames pair }
+{}
+
+/// Where a format has no palette, the elements of the pixels are all the bytes of a frame.
+pub fn elements_fill_frames()
+    ensures { (desc : Desc) → IsValid desc → desc.palette ≡ false → FillsFrames desc }
+{}
+
+/// Every list of the recipe ends with a Write.
+pub fn recipe_is_whole()
+    ensures { (pair : Pair) → ends_with_write (recipe pair) ≡ true }
 {}

@@ -1,25 +1,31 @@
 //! The list of operations of a conversion.
 //!
 //! `specs/Recipe` says which list a pair of formats has. It is proved that this list is well typed, that it means the target
-//! rows at every pixel, and that its checked evaluation always answers for the classes of the table. The functions that
-//! make its parts are here, each with its exact value; the function that puts them together is not written yet.
+//! rows at every pixel, and that its checked evaluation always answers for the classes of the table. `build` makes the list.
 #![tactic(auto)]
 
 mod channel;
 mod code_values;
 mod colour;
 mod elements;
+mod fault;
 mod laws;
 mod limits;
+mod list;
 mod numbers;
 mod places;
 mod rows;
 mod shape;
 mod sources;
 mod split;
+mod steps;
+#[cfg(test)]
+mod tests;
 mod word;
 
+pub use fault::BuildFault;
 pub use laws::{
-    checked_recipe_is_exact, decoding_gives_codes, decoding_is_whole, recipe_is_list,
-    recipe_means_target,
+    checked_recipe_is_exact, decoding_gives_codes, decoding_is_whole, elements_fill_frames,
+    recipe_is_list, recipe_is_whole, recipe_means_target, recipe_reads_frames,
 };
+pub use list::build;
