@@ -29,3 +29,4 @@ pub use laws::{
     recipe_is_list, recipe_is_whole, recipe_means_target, recipe_reads_frames,
 };
 pub use list::build;
+pub use shape::{element_counts, element_type};
