@@ -5,7 +5,7 @@ ghost use Rattle.frac_math.specs.Checked.{QuotientFits};
 ghost use Rattle.colour_matrix.specs.declared.class.Levels.{Levels};
 ghost use Rattle.pix_desc.specs.Layouts.{IsValid};
 ghost use Rattle.op_list.specs.Values.{four, fraction_in};
-ghost use Rattle.op_build.specs.Recipe.{channel_levels, is_plain, diagonal, from_codes, to_codes};
+ghost use Rattle.op_build.specs.Recipe.{channel_levels, diagonal, from_codes, to_codes};
 ghost use Rattle.op_build.specs.BoundClasses.{are_plain};
 ghost use Rattle.op_build.specs.LevelSizes.{AreSmall};
 
@@ -41,14 +41,6 @@ fn are_plain(levels: &[Levels; 4]) -> bool
         && second.base == zero
         && third.base == zero
         && fourth.base == zero
-}
-
-/// Whether all four scales are equal, and all bases are 0.
-pub fn is_plain(side: &Side) -> bool
-    requires { IsValid side.now.desc }
-    ensures { result ≡ is_plain side.now }
-{
-    are_plain(&side_levels(side))
 }
 
 /// One coefficient and one constant for each value.

@@ -1,15 +1,10 @@
 -- Packed RGB formats: each component is a byte of plane 0.
-use Rattle.std.proofs.Common.{◌≡◌, ◌≢◌, ℕ, ◌+◌, ◌-◌, ◌*◌, ◌/◌, ◌%◌, ◌^◌, ◌<◌, true, false, not, ◌&&◌, if◌then◌else◌, nat_le, nat_eq, pos, ◌+ℤ◌, List, [], ◌∷◌, drop, slice_index, refl, sym, ◌∙◌, ap, subst, arith, eqb-true}
+use Rattle.std.proofs.Common.{◌≡◌, ℕ, ◌<◌, true, false, not, ◌&&◌, nat_eq, subst, arith, eqb-true}
 use Rattle.std.specs.List.{list_all}
-use Rattle.std.proofs.lemmas.Bool.{and_parts, not-true, ne_eqb}
-use Rattle.std.proofs.lemmas.List.{get_or-drop}
-use Rattle.std.proofs.lemmas.Nat.{mod-mul-add}
-use Rattle.pix_desc.proofs.FramePlaces.{bit_place_is}
+use Rattle.std.proofs.lemmas.Bool.{and_parts, not-true}
 use Rattle.pix_desc.specs.declared.desc.Comp.{Comp}
 use Rattle.pix_desc.specs.declared.desc.Desc.{Desc}
-use Rattle.pix_desc.specs.Component.{components, component_of, no_component, is_narrow, bytes_read, first_byte, start_of, number_at, bit_place}
-use Rattle.pix_desc.specs.Frame.{step_in, plane_step, plane_start, frame_length, row_start, frame_component}
-use Rattle.pix_desc.specs.Layouts.{IsLaidOut}
+use Rattle.pix_desc.specs.Component.{components, component_of, no_component}
 use Rattle.pix_desc.proofs.ComponentLists.{list_all-true, get_or-components, length-components}
 use Rattle.sws_run.specs.PackedRgb.{is_whole_byte, is_packed_rgb}
 

@@ -28,7 +28,12 @@ impl Conversion {
     ghost use Rattle.sws_run.specs.Conversion.{IsReady, IsConverted};
 
     /// Builds the list of operations.
-    pub fn new(alloc: Global, pair: Pair, width: u32, height: u32) -> Result<Conversion, OutOfMemory>
+    pub fn new(
+        alloc: Global,
+        pair: Pair,
+        width: u32,
+        height: u32,
+    ) -> Result<Conversion, OutOfMemory>
         requires valid { IsValidPair pair }
         requires plain { pair.to.desc.palette ≡ false }
         requires evaluated { IsEvaluated pair }

@@ -78,5 +78,12 @@ pub fn run_sws<R: Threads + Sync, S: Source, K: Sink, L: Sink, G: Gate>(
     let Ok(mut target_frame) = zeros(alloc, target_length) else {
         return Ended::OutOfMemory { frames: 0 };
     };
-    convert_frames(&task, &conversion, input, output, &mut frame, &mut target_frame)
+    convert_frames(
+        &task,
+        &conversion,
+        input,
+        output,
+        &mut frame,
+        &mut target_frame,
+    )
 }

@@ -1,6 +1,5 @@
-use Rattle.std.proofs.Common.{rules, arith, ◌≡◌, ◌*◌, ◌<◌, length, take, subst, ap}
+use Rattle.std.proofs.Common.{rules, arith, ◌≡◌, ◌*◌, ◌<◌, length, take, subst}
 use Rattle.std.proofs.lemmas.List.{length-take-le}
-use Rattle.pix_desc.specs.Frame.{frame_length}
 use Rattle.sws_run.specs.Stream.{source_length}
 use Rattle.sws_run.specs.declared.ended.Ended.TheVariants.{Done, Stream, TooManyFrames}
 use Rattle.sws_run.specs.declared.ended.StreamFault.TheVariants.{Truncated}
