@@ -7,6 +7,7 @@ use desc_table::FormatFault;
 use pairs::{formats, pixels};
 use pix_io::{MemSink, MemSource};
 use std::alloc::{AllocError, Global};
+use std::process::Abort;
 use std::test::Fail;
 use std::thread::Threads;
 
@@ -74,12 +75,16 @@ fn parts_of(row: &str) -> Option<(&str, &str, &str)> {
 }
 
 // Converts the frame of each row.
-fn convert_rows(rt: HostRuntime, rows: &[&str]) -> Result<(), Fail> {
+fn convert_rows<R: Abort + Threads + Sync>(
+    rt: &R,
+    alloc: Global,
+    rows: &[&str],
+) -> Result<(), AllocError> {
     for row in rows {
-        let (line, source, target) = parts_of(row).expect(&rt, "three parts");
-        let input = bytes_of(rt.alloc(), source)?;
-        let output = bytes_of(rt.alloc(), target)?;
-        let (ended, written) = run(&rt, rt.alloc(), line, &input, &[], 7, &[])?;
+        let (line, source, target) = parts_of(row).expect(rt, "three parts");
+        let input = bytes_of(alloc, source)?;
+        let output = bytes_of(alloc, target)?;
+        let (ended, written) = run(rt, alloc, line, &input, &[], 7, &[])?;
         assert_eq!(rt; ended, Ended::Done { frames: 1 }, "{line}");
         assert_eq!(rt; written.as_slice(), output.as_slice(), "{line}");
     }
@@ -89,12 +94,14 @@ fn convert_rows(rt: HostRuntime, rows: &[&str]) -> Result<(), Fail> {
 #[test]
 fn converts_every_format_as_the_reference(rt: HostRuntime) -> Result<(), Fail> {
     assert_eq!(rt; formats().len(), 108);
-    convert_rows(rt, formats())
+    convert_rows(&rt, rt.alloc(), formats())?;
+    Ok(())
 }
 
 #[test]
 fn converts_pixels(rt: HostRuntime) -> Result<(), Fail> {
-    convert_rows(rt, pixels())
+    convert_rows(&rt, rt.alloc(), pixels())?;
+    Ok(())
 }
 
 #[test]
