@@ -102,6 +102,23 @@ fn quotient(num: i128, den: i128) -> Frac {
 }
 
 #[test]
+fn pushes(rt: HostRuntime) {
+    let mut list = OpList::new(rt.alloc());
+    for (op, answer) in [
+        (Op::SwapBytes, Err(PushFault::WrongType)),
+        (read(PixType::U8, [3, 0, 0, 0]), Ok(())),
+        (Op::Dither { k: 0 }, Err(PushFault::WrongType)),
+        (
+            Op::Swizzle { from: [0, 0, 0, 4] },
+            Err(PushFault::BadArgument),
+        ),
+    ] {
+        assert_eq!(rt; list.push(op), answer, "{op:?}");
+    }
+    assert_eq!(rt; list.ops().len(), 1);
+}
+
+#[test]
 #[tactic(auto, unfolding(crate::specs::Pixel::frame_length))]
 fn whole_numbers(rt: HostRuntime) {
     // The fields of 5, 6 and 5 bits turned, in words with the highest byte first.
