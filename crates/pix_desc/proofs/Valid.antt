@@ -72,7 +72,7 @@ distinct_below : (a b c d e : ℕ) → a < 4 → b < 4 → c < 4 → d < 4 → e
 distinct_below a b c d e in_a in_b in_c in_d in_e ab ac ad ae bc bd be cd ce de = omega arith
 
 -- a component lies in each plane below a plane that is used
-plane_used : (desc : Desc) (j p : ℕ) → has_all_planes desc ≡ true → j < desc.count → p < (component_of desc j).plane → (i : ℕ) × (i < desc.count) × ((component_of desc i).plane ≡ p)
+pub plane_used : (desc : Desc) (j p : ℕ) → has_all_planes desc ≡ true → j < desc.count → p < (component_of desc j).plane → (i : ℕ) × (i < desc.count) × ((component_of desc i).plane ≡ p)
 plane_used desc j p all listed below =
     let each = list_all-map_true (component_of desc) (λ c. list_all (λ q. some_component desc (λ d. nat_eq d.plane q)) (range_with_len 0 c.plane)) desc.count j all listed in
     let one = list_all-below_true (λ q. some_component desc (λ d. nat_eq d.plane q)) (component_of desc j).plane p each below in

@@ -41,7 +41,7 @@ pub result_below : ResultsFit
 unfolding result_of
 result_below pair width height first frame j x y = clamped_below (depth_of pair.to.desc j) _
 
-results_fit : (pair : Pair) (width height first : ℕ) (frame : List ℕ) → pair.to.desc.palette ≡ false → FitDepths pair.to.desc width height (result_of pair width height first frame)
+pub results_fit : (pair : Pair) (width height first : ℕ) (frame : List ℕ) → pair.to.desc.palette ≡ false → FitDepths pair.to.desc width height (result_of pair width height first frame)
 results_fit pair width height first frame none j x y listed column row =
     subst (λ b. result_of pair width height first frame j x y < 2 ^ (if b then 8 else (component_of pair.to.desc j).depth)) none (result_below pair width height first frame j x y)
 
