@@ -18,7 +18,8 @@ use Rattle.op_list.specs.Apply.{apply, row_of, row_value}
 use Rattle.op_list.specs.Checked.{checked_apply, checked_row, checked_term}
 use Rattle.op_list.specs.Run.{run_from, checked_run_from, run, checked_run}
 
-option_map_some : {A B P : Type 0} (f : A → B) (o : Option A) (y : B) → option_map f o ≡ Some y → ((x : A) → o ≡ Some x → f x ≡ y → P) → P
+-- what a mapped answer was made of
+pub option_map_some : {A B P : Type 0} (f : A → B) (o : Option A) (y : B) → option_map f o ≡ Some y → ((x : A) → o ≡ Some x → f x ≡ y → P) → P
 option_map_some f None y h use_it = absurd (none-some y h)
 option_map_some f (Some x) y h use_it = use_it x refl (same_Some (f x) y h)
 

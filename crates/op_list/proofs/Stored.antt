@@ -1,5 +1,5 @@
 -- Elements of frames: what they are read from, when two frames have the same, and that they determine the frame.
-use Rattle.std.proofs.Common.{◌≡◌, ◌≢◌, ℕ, zero, suc, ◌+◌, ◌*◌, ◌/◌, ◌%◌, ◌<◌, ◌≤◌, ⊎_elim, List, length, slice_index, refl, sym, ap, ◌∙◌, arith, subst}
+use Rattle.std.proofs.Common.{◌≡◌, ◌≢◌, ℕ, zero, suc, ◌+◌, ◌*◌, ◌/◌, ◌%◌, ◌^◌, ◌<◌, ◌≤◌, ⊎_elim, List, length, slice_index, refl, sym, ap, ◌∙◌, arith, subst}
 use Rattle.std.specs.Prelude.{sum, All}
 use Rattle.std.proofs.lemmas.Bool.{cases_lt, cond_below, cond_above}
 use Rattle.std.proofs.lemmas.Grind.{same_number_lists}
@@ -8,8 +8,9 @@ use Rattle.std.proofs.lemmas.List.Elements.{All-get_or}
 use Rattle.std.proofs.lemmas.Nat.{mul-add-lt, div-add-mod'}
 use Rattle.std.proofs.Math.Nat.{div-lt_iff_lt-mul, mod-lt}
 use Rattle.op_list.specs.declared.types.PixType.{PixType}
+use Rattle.op_list.specs.declared.types.PixType.TheVariants.{U8, U16, U32, Rat}
 use Rattle.op_list.specs.declared.place.Place.{Place}
-use Rattle.op_list.specs.Types.{bytes}
+use Rattle.op_list.specs.Types.{bits, bytes}
 use Rattle.op_list.specs.Pixel.{number_at, element, element_in, element_of, pixel_count, pixel_number, HasElements}
 use Rattle.op_list.specs.Store.{IsOtherPixel, HaveSameElements, ElementsMakeFrame}
 use Rattle.op_list.proofs.Elements.{bytes_positive, element_ends}
@@ -76,13 +77,24 @@ other_pixel_kept elem planes old new place other i j column row within is kept =
     (same_index pixels (pixel_number other) pixel 0 planes j i below (number_below place column row) here within
     (ap (λ t. element_in t (pixel_number other) 0 planes j) (sym count) ∙ same)).0)
 
--- ---- elements determine a frame
-byte_below : (xs : List ℕ) (k : ℕ) → All (λ byte. byte < 256) xs → slice_index xs k < 256
+-- ---- a frame of bytes
+
+pub byte_below : (xs : List ℕ) (k : ℕ) → All (λ byte. byte < 256) xs → slice_index xs k < 256
 byte_below xs k all =
     ⊎_elim
     (λ (here : k < length xs). All-get_or (λ byte. byte < 256) xs k 0 here all)
     (λ (past : length xs ≤ k). subst (λ b. b < 256) (sym (get_or_past xs k 0 past)) (omega arith))
     (cases_lt k (length xs))
+
+-- an element of so many bits
+pub element_below : (elem : PixType) (frame : List ℕ) (k : ℕ) → All (λ byte. byte < 256) frame → element elem frame k < 2 ^ bits elem
+element_below U8 frame k all = omega (arith, byte_below frame (k * 1) all)
+element_below U16 frame k all = omega (arith, byte_below frame (k * 2) all, byte_below frame (k * 2 + 1) all)
+element_below U32 frame k all =
+    omega (arith, byte_below frame (k * 4) all, byte_below frame (k * 4 + 1) all, byte_below frame (k * 4 + 1 + 1) all, byte_below frame (k * 4 + 1 + 1 + 1) all)
+element_below Rat frame k all = omega arith
+
+-- ---- elements determine a frame
 
 -- equal numbers have equal bytes
 same_bytes : (count : ℕ) (a b : List ℕ) (at t : ℕ) → All (λ byte. byte < 256) a → All (λ byte. byte < 256) b → number_at count a at ≡ number_at count b at
