@@ -1,14 +1,10 @@
 -- At each pixel of a frame the checked run of the list of a pair whose sides are of the classes is the exact one.
-use Rattle.std.proofs.Common.{◌≡◌, ⊎_elim, ℕ, zero, suc, ◌-◌, ◌^◌, ◌<◌, ◌≤◌, true, false, if◌then◌else◌, nat_eq, List, sym, ap, subst, arith}
+use Rattle.std.proofs.Common.{◌≡◌, ⊎_elim, ℕ, ◌^◌, ◌<◌, true, false, List, sym, ap, subst}
 use Rattle.std.specs.Prelude.{Some, All}
 use Rattle.std.specs.Option.{option_map}
 use Rattle.std.proofs.lemmas.Bool.{cases_Bool, cond-true, cond-false}
-use Rattle.std.proofs.lemmas.Nat.{pow_pos}
-use native.Mathlib.Nat.{pow-suc}
 use Rattle.pix_desc.specs.declared.desc.Desc.{Desc}
-use Rattle.pix_desc.specs.Component.{component_of}
 use Rattle.pix_desc.specs.Layouts.{IsValid}
-use Rattle.pix_desc.proofs.Valid.{laid_out}
 use Rattle.pix_meaning.specs.declared.pair.Pair.{Pair}
 use Rattle.pix_meaning.specs.Pairs.{IsValidPair, has_channel, component_at, depth_of}
 use Rattle.pix_meaning.proofs.PixelLaws.{source_below}
@@ -16,33 +12,12 @@ use Rattle.op_list.specs.declared.place.Place.{Place}
 use Rattle.op_list.specs.Values.{four, number}
 use Rattle.op_list.specs.Run.{run, checked_run}
 use Rattle.op_build.specs.Meaning.{CheckedIsThere}
-use Rattle.op_build.specs.Recipe.{channel_depth, missing_code, recipe}
+use Rattle.op_build.specs.Recipe.{channel_depth, recipe}
 use Rattle.op_build.specs.Codes.{code_of}
 use Rattle.op_build.specs.BoundClasses.{side_class, side_classes, IsOneOf}
-use Rattle.op_build.proofs.Codes.{code_of-there, code_of-missing}
+use Rattle.op_build.proofs.Codes.{code_of-there, code_of-missing, missing_code-below}
 use Rattle.op_build.proofs.Decode.{decode_gives}
 use Rattle.op_build.proofs.BoundRuns.{recipe_is_there}
-
--- component 0 has a bit
-first_has_bits : (desc : Desc) → IsValid desc → 1 ≤ depth_of desc 0
-first_has_bits desc valid =
-    ⊎_elim
-    (λ palette. subst (λ (d : ℕ). 1 ≤ d) (sym (cond-true desc.palette 8 (component_of desc 0).depth palette)) (omega arith))
-    (λ plain. subst (λ (d : ℕ). 1 ≤ d) (sym (cond-false desc.palette 8 (component_of desc 0).depth plain)) (omega (arith, (laid_out desc valid).deep 0 (laid_out desc valid).some)))
-    (cases_Bool desc.palette)
-
-half_below : (d : ℕ) → 1 ≤ d → 2 ^ (d - 1) < 2 ^ d
-half_below zero h = absurd (omega (arith, h))
-half_below (suc d) h =
-    let e : suc d - 1 ≡ d = omega arith in
-    subst (λ (n : ℕ). 2 ^ n < 2 ^ suc d) (sym e) (omega (arith, pow-suc 2 d, pow_pos d))
-
-missing_below : (desc : Desc) (c : ℕ) → IsValid desc → missing_code desc c < 2 ^ depth_of desc 0
-missing_below desc c valid =
-    elim (nat_eq c 3) as (λ b. (if b then 2 ^ depth_of desc 0 - 1 else 2 ^ (depth_of desc 0 - 1)) < 2 ^ depth_of desc 0) [
-      | true ↦ omega (arith, pow_pos (depth_of desc 0))
-      | false ↦ half_below (depth_of desc 0) (first_has_bits desc valid)
-    ]
 
 -- the code of a channel fits its depth
 pub code_below : (desc : Desc) (width rows : ℕ) (frame : List ℕ) (x row c : ℕ) → IsValid desc → All (λ byte. byte < 256) frame
@@ -54,7 +29,7 @@ code_below desc width rows frame x row c valid bytes =
     (subst (λ (n : ℕ). n < 2 ^ depth_of desc (component_at desc c)) (sym (code_of-there desc width rows frame x row c there)) (source_below desc width rows frame (component_at desc c) x row bytes)))
     (λ (missing : has_channel desc c ≡ false).
     subst (λ (d : ℕ). code_of desc width rows frame x row c < 2 ^ d) (sym (cond-false (has_channel desc c) (depth_of desc (component_at desc c)) (depth_of desc 0) missing))
-    (subst (λ (n : ℕ). n < 2 ^ depth_of desc 0) (sym (code_of-missing desc width rows frame x row c missing)) (missing_below desc c valid)))
+    (subst (λ (n : ℕ). n < 2 ^ depth_of desc 0) (sym (code_of-missing desc width rows frame x row c missing)) (missing_code-below desc c valid)))
     (cases_Bool (has_channel desc c))
 
 pub checked_run_is_there : (pair : Pair) (frame : List ℕ) (width rows x row y : ℕ) → IsValidPair pair

@@ -22,10 +22,10 @@ use Rattle.op_list.specs.Typing.{stage_after, stage_from}
 use Rattle.op_list.specs.Apply.{apply}
 use Rattle.op_list.specs.Checked.{checked_apply}
 use Rattle.op_list.specs.Run.{run_from, checked_run_from}
+use Rattle.op_list.proofs.Exact.{run_from-append}
 use Rattle.op_build.specs.Shape.{element_type, element_counts, is_swapped, field_widths}
 use Rattle.op_build.specs.Recipe.{only_if, channel_depth, from_places, missing_codes, to_places, spare_zeros, decode, convert, encode, recipe}
 use Rattle.op_build.specs.BoundClasses.{side_class, side_classes, IsOneOf}
-use Rattle.op_build.proofs.Runs.{run_from-append}
 use Rattle.op_build.proofs.BoundPairs.{converting_is_there}
 
 -- ---- operations without sums and products of fractions

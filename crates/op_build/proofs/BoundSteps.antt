@@ -17,6 +17,7 @@ use Rattle.op_list.specs.Typing.{stage_after}
 use Rattle.op_list.specs.Apply.{apply, row_of, row_value, product, at_most, at_least}
 use Rattle.op_list.specs.Checked.{checked_apply, checked_row, checked_term}
 use Rattle.op_list.specs.Run.{run_from, checked_run_from}
+use Rattle.op_list.proofs.Exact.{option_map_some}
 use Rattle.op_build.specs.Bounds.{Bound, HasBound, HaveBounds, bound, bound_of, bound_in, reduced_bound, both_bound, sum_bound, product_bound, term_bound, row_bound, limited_bound, bounds_after, bounds_from, dither_bound}
 use Rattle.op_build.proofs.BoundFractions.{two_small, sum_there, sum_bounded, product_there, product_bounded, reduced, itself_bound, min_bounded, max_bounded, dither_bounded}
 
@@ -85,10 +86,6 @@ pub record AreThere (answer : Option Values) (values : Values) (bounds : List Bo
   pub there : answer ≡ Some values
   pub bounded : HaveBounds values bounds
 
-option_map_step : {A B P : Type 0} (f : A → B) (o : Option A) (y : B) → option_map f o ≡ Some y → ((x : A) → o ≡ Some x → f x ≡ y → P) → P
-option_map_step f None y h use_it = absurd (none-some y h)
-option_map_step f (Some x) y h use_it = use_it x refl (same_Some (f x) y h)
-
 four_there : (f : ℕ → Option ℚ) (g : ℕ → ℚ) → f 0 ≡ Some (g 0) → f 1 ≡ Some (g 1) → f 2 ≡ Some (g 2) → f 3 ≡ Some (g 3) → option_map Fractions (all_four f) ≡ Some (Fractions (four g))
 four_there f g p q r s = rw (p, q, r, s)
 
@@ -96,7 +93,7 @@ each_step : (f : ℕ → Option ℚ) (g : ℕ → ℚ) (h : ℕ → Option Bound
     → all_four h ≡ Some bounds → AreThere (option_map Fractions (all_four f)) (Fractions (four g)) bounds
 each_step f g h bounds step e =
     option_and_then_some _ (h 0) bounds e (λ a ea ra. option_and_then_some _ (h 1) bounds ra (λ b eb rb. option_and_then_some _ (h 2) bounds rb
-    (λ c ec rc. option_map_step _ (h 3) bounds rc (λ d ed is.
+    (λ c ec rc. option_map_some _ (h 3) bounds rc (λ d ed is.
     let p = step 0 a ea in let q = step 1 b eb in let r = step 2 c ec in let s = step 3 d ed in
     record {
       there = four_there f g p.there q.there r.there s.there;

@@ -87,8 +87,8 @@ in_channels desc values codes there missing =
 
 -- ---- how great the codes are
 
--- depths are above 0
-depth_positive : (desc : Desc) → IsValid desc → 0 < depth_of desc 0
+-- component 0 has a bit
+pub depth_positive : (desc : Desc) → IsValid desc → 0 < depth_of desc 0
 depth_positive desc valid =
     cond_both desc.palette 8 (component_of desc 0).depth (λ d. 0 < d) (λ _. omega arith) (λ _. (laid_out desc valid).deep 0 (laid_out desc valid).some)
 

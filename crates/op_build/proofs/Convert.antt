@@ -1,5 +1,5 @@
 -- Converting turns the codes of a source pixel's channels into values whose floors are the results.
-use Rattle.std.proofs.Common.{◌≡◌, ℕ, ◌+◌, ◌-◌, ◌^◌, ◌<◌, Bool, true, false, not, if◌then◌else◌, pos, sym, List, [], ◌∷◌, ◌++◌, Some, None, refl, ap, ◌∙◌, arith}
+use Rattle.std.proofs.Common.{◌≡◌, ℕ, ◌+◌, ◌-◌, ◌^◌, ◌<◌, Bool, true, false, not, if◌then◌else◌, pos, List, [], ◌∷◌, ◌++◌, Some, None, refl, ap, ◌∙◌, arith}
 use Rattle.std.proofs.lemmas.Bool.{cond-true, cond-false}
 use Rattle.frac_math.specs.Fraction.{ℚ, nat, floor, ◌+ℚ◌}
 use Rattle.frac_math.specs.Dither.{dither_at}
@@ -24,9 +24,10 @@ use Rattle.op_list.specs.Values.{four}
 use Rattle.op_list.specs.Apply.{apply, at_most, at_least}
 use Rattle.op_list.specs.Run.{run_from}
 use Rattle.op_list.specs.Typing.{stage_after, stage_from}
+use Rattle.op_list.proofs.Exact.{run_from-append}
+use Rattle.op_list.proofs.Pushed.{stage_from-append}
 use Rattle.op_build.specs.Recipe.{only_if, channel_depth, channel_levels, over_three, from_codes, to_codes, limits, convert}
 use Rattle.op_build.specs.Codes.{code_of}
-use Rattle.op_build.proofs.Runs.{run_from-append, stage_from-append}
 use Rattle.op_build.proofs.ConvertLevels.{levels_there, code_means}
 use Rattle.op_build.proofs.ConvertSteps.{same_fractions, from_codes-applied, to_codes-applied, from_codes-stage, to_codes-stage, to_rgb-run, from_rgb-run, only_if-stage}
 use Rattle.op_build.proofs.ConvertClamp.{floor_limited}
@@ -63,14 +64,6 @@ coded_floor pair width rows first frame j x row valid listed =
     ∙ ap (λ d. floor (limited true d (to_code (channel_levels pair.to c) value +ℚ dither))) depth
     ∙ ap (λ l. floor (limited true (depth_of desc j) (to_code l value +ℚ dither))) (levels_there pair.to c there)
     ∙ floor_limited (to_code (levels_of pair.to c) value +ℚ dither) (depth_of desc j)
-
--- the same by the channels that the target has
-pub coded_floor-channel : (pair : Pair) (width rows first : ℕ) (frame : List ℕ) (c x row : ℕ) → IsValidPair pair → c < 4 → has_channel pair.to.desc c ≡ true
-    → floor (coded pair width rows frame x row (first + row) c) ≡ pos (result_of pair width rows first frame (component_at pair.to.desc c) x row)
-coded_floor-channel pair width rows first frame c x row valid below there =
-    let channels = has_channels pair.to.desc valid.to in
-    ap (λ d. floor (coded pair width rows frame x row (first + row) d)) (sym (channels.channel c below there))
-    ∙ coded_floor pair width rows first frame (component_at pair.to.desc c) x row valid (channels.listed c below there)
 
 -- ---- the operations one after the other
 

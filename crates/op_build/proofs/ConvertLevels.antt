@@ -6,9 +6,7 @@ use Rattle.frac_math.specs.Fraction.{nat, ◌*ℚ◌, ◌-ℚ◌, inverse}
 use Rattle.frac_math.proofs.Ring.{var, num, ◌⊖◌, ◌⊗◌, ring, ring_from, done, by}
 use Rattle.frac_math.proofs.FractionRing.{fractions, same, itself, over_stands, mul_stands}
 use Rattle.pix_desc.specs.declared.desc.Desc.{Desc}
-use Rattle.pix_desc.specs.Component.{component_of}
 use Rattle.pix_desc.specs.Layouts.{IsValid}
-use Rattle.pix_desc.proofs.Valid.{laid_out}
 use Rattle.colour_matrix.specs.Levels.{levels, scaled_to, from_code}
 use Rattle.colour_matrix.specs.declared.class.Class.TheVariants.{Direct, Chroma}
 use Rattle.colour_matrix.specs.declared.class.Range.{Range}
@@ -20,7 +18,7 @@ use Rattle.pix_meaning.specs.Values.{source_value}
 use Rattle.pix_meaning.proofs.Passing.{value_there}
 use Rattle.op_build.specs.Recipe.{channel_depth, channel_levels, missing_code}
 use Rattle.op_build.specs.Codes.{code_of}
-use Rattle.op_build.proofs.Codes.{code_of-there, code_of-missing}
+use Rattle.op_build.proofs.Codes.{code_of-there, code_of-missing, depth_positive}
 
 -- ---- missing codes
 
@@ -57,13 +55,6 @@ depth_missing : (desc : Desc) (c : ℕ) → has_channel desc c ≡ false → cha
 depth_missing desc c missing = cond-false (has_channel desc c) (depth_of desc (component_at desc c)) (depth_of desc 0) missing
 
 -- component 0 has a bit
-first_deep : (desc : Desc) → IsValid desc → 1 ≤ depth_of desc 0
-first_deep desc valid =
-    elim desc.palette as (λ b. 1 ≤ (if b then 8 else (component_of desc 0).depth)) [
-      | true ↦ omega arith
-      | false ↦ omega (arith, (laid_out desc valid).deep 0 (laid_out desc valid).some)
-    ]
-
 left_false : (a b : Bool) → (a || b) ≡ false → a ≡ false
 left_false true b h = absurd cc
 left_false false b h = refl
@@ -74,11 +65,11 @@ missing_value : (side : Side) (c : ℕ) → IsValid side.desc → c < 4 → has_
 missing_value side zero valid below missing = absurd cc
 missing_value side (suc zero) valid below missing =
     ap (λ b. from_code (levels (if b then Direct else Chroma) (depth_of side.desc 0) side.range) (nat (2 ^ (depth_of side.desc 0 - 1)))) (left_false (is_rgb side.desc) _ missing)
-    ∙ missing_chroma side.range (depth_of side.desc 0) (first_deep side.desc valid)
+    ∙ missing_chroma side.range (depth_of side.desc 0) (depth_positive side.desc valid)
 missing_value side (suc (suc zero)) valid below missing =
     ap (λ b. from_code (levels (if b then Direct else Chroma) (depth_of side.desc 0) side.range) (nat (2 ^ (depth_of side.desc 0 - 1)))) (left_false (is_rgb side.desc) _ missing)
-    ∙ missing_chroma side.range (depth_of side.desc 0) (first_deep side.desc valid)
-missing_value side (suc (suc (suc zero))) valid below missing = missing_alpha side.range (depth_of side.desc 0) (first_deep side.desc valid)
+    ∙ missing_chroma side.range (depth_of side.desc 0) (depth_positive side.desc valid)
+missing_value side (suc (suc (suc zero))) valid below missing = missing_alpha side.range (depth_of side.desc 0) (depth_positive side.desc valid)
 missing_value side (suc (suc (suc (suc c)))) valid below missing = absurd (omega arith)
 
 value_missing : (side : Side) (width rows : ℕ) (frame : List ℕ) (x row c : ℕ) → has_channel side.desc c ≡ false

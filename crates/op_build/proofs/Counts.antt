@@ -8,11 +8,12 @@ use Rattle.pix_desc.specs.declared.desc.Desc.{Desc}
 use Rattle.pix_desc.specs.Component.{component_of, bytes_read}
 use Rattle.pix_desc.specs.Frame.{plane_step}
 use Rattle.pix_desc.specs.Layouts.{IsLaidOut, has_all_planes}
+use Rattle.pix_desc.proofs.Valid.{plane_used}
 use Rattle.op_list.specs.Typing.{are_in_front, are_counts}
 use Rattle.op_list.specs.Values.{four}
 use Rattle.op_build.specs.Shape.{element_bytes, element_counts}
 use Rattle.op_build.proofs.Lists.{get_or-four}
-use Rattle.op_build.proofs.Planes.{component_in, component_below, step_by, bytes_read-positive}
+use Rattle.op_build.proofs.Planes.{component_in, step_by, bytes_read-positive}
 
 pub counts_are : (desc : Desc) (size : ℕ) → element_bytes desc ≡ size → element_counts desc ≡ four (λ plane. plane_step desc plane / size)
 unfolding element_counts
@@ -63,7 +64,7 @@ module _ (desc : Desc) (size : ℕ) (laid : IsLaidOut desc) (all : has_all_plane
       (λ (none : plane_step desc plane ≡ 0). absurd (omega (arith, ap (λ s. s / size) none)))
       (λ (step : 0 < plane_step desc plane).
       let here = component_in desc plane step in
-      let there = component_below desc here.0 other all here.1 (omega (arith, here.2)) in
+      let there = plane_used desc here.0 other all here.1 (omega (arith, here.2)) in
       count_of_used there.0 other there.1 there.2)
       (eq-zero-or-pos (plane_step desc plane))
 

@@ -24,19 +24,12 @@ use Rattle.op_build.proofs.DecodeRuns.{decode_by}
 use Rattle.op_build.proofs.DecodePlain.{decode_is, shifts, split_elements, split_word}
 use Rattle.op_build.proofs.DecodePalette as Palette
 use Rattle.op_build.proofs.ElementPlaces.{HasElements}
+use Rattle.op_build.proofs.Lists.{four_hold}
 use Rattle.op_build.proofs.Shapes.{first_size, has_layout, has_places, has_type, element_counts_are_good, field_widths_are_good}
 use Rattle.op_build.proofs.WordBits.{number_end, word_end}
 use Rattle.op_build.proofs.WordShape.{HasWord}
 
 -- ---- the arguments of each operation
-
--- four tests that hold
-four_hold : (test : ℕ → Bool) → ((i : ℕ) → i < 4 → test i ≡ true) → (test 0 && (test 1 && (test 2 && (test 3 && true)))) ≡ true
-four_hold test each =
-    and_from (test 0) (test 1 && (test 2 && (test 3 && true))) (each 0 (omega arith))
-    (and_from (test 1) (test 2 && (test 3 && true)) (each 1 (omega arith))
-    (and_from (test 2) (test 3 && true) (each 2 (omega arith))
-    (and_from (test 3) true (each 3 (omega arith)) refl)))
 
 -- a missing code, where there is one, is a number of so many bits
 pub missing_codes_fit : (desc : Desc) (count : ℕ) → IsValid desc → depth_of desc 0 ≤ count → all_fit count (missing_codes desc) ≡ true

@@ -15,7 +15,7 @@ use Rattle.op_build.specs.Shape.{element_counts, element_index}
 use Rattle.op_build.proofs.ByteNumbers.{in_order, bit_at_in_order}
 use Rattle.op_build.proofs.Counts.{count_at, length-counts}
 use Rattle.op_build.proofs.ElementPlaces.{HasElements, element_index_is}
-use Rattle.op_build.proofs.EncodeStarts.{IsInPlane, whole_steps}
+use Rattle.op_build.proofs.ElementStarts.{IsInPlane, whole_steps}
 use Rattle.op_build.proofs.WordBits.{bit_in_order, number_place, number_end}
 
 -- quotient and rest are determined

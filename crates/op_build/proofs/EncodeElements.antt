@@ -17,26 +17,24 @@ use Rattle.pix_desc.proofs.Valid.{laid_out}
 use Rattle.pix_meaning.specs.Pairs.{channel_of}
 use Rattle.op_list.specs.declared.op.Op.TheVariants.{LeftShift, Pack}
 use Rattle.op_list.specs.declared.place.Place.{Place}
-use Rattle.op_list.specs.declared.types.PixType.{PixType}
 use Rattle.op_list.specs.declared.types.PixType.TheVariants.{Rat}
 use Rattle.op_list.specs.declared.types.Stage.TheVariants.{Typed}
 use Rattle.op_list.specs.declared.values.Values.TheVariants.{Numbers, Fractions}
 use Rattle.op_list.specs.Types.{bits, bytes}
 use Rattle.op_list.specs.Values.{four}
-use Rattle.op_list.specs.Pixel.{number_at, element, element_in, element_of, pixel_count, pixel_number}
+use Rattle.op_list.specs.Pixel.{number_at, element_in, element_of, pixel_count, pixel_number}
 use Rattle.op_list.specs.Run.{run_from}
+use Rattle.op_list.proofs.Stored.{element_of-past}
 use Rattle.op_build.specs.Meaning.{elements_at}
 use Rattle.op_build.specs.Recipe.{encode, to_places, spare_zeros}
 use Rattle.op_build.specs.Shape.{element_bytes, element_type, element_counts, element_index, field_widths, is_swapped, slots}
 use Rattle.op_build.proofs.ByteNumbers.{in_order}
-use Rattle.op_build.proofs.ElementPlaces.{HasElements, element_index_is, element_index-apart, first_in_plane, length-slots, slot_holds, index_slot}
-use Rattle.op_build.proofs.ElementStarts.{element_of_at}
-use Rattle.op_build.proofs.Counts.{length-counts}
+use Rattle.op_build.proofs.ElementPlaces.{HasElements, element_index-apart, length-slots, slot_holds, index_slot}
+use Rattle.op_build.proofs.ElementStarts.{element_of_at, IsInPlane, find_in_plane, element_starts, component_in_plane}
 use Rattle.op_build.proofs.EncodeBits.{element_bit, component_bit}
 use Rattle.op_build.proofs.EncodeOrder.{IsSize, turned_back, ordered_below}
 use Rattle.op_build.proofs.EncodePlaces.{fits_type, spare_place, component_place}
 use Rattle.op_build.proofs.EncodeRuns.{encode_by, placed_code, run_shift}
-use Rattle.op_build.proofs.EncodeStarts.{IsInPlane, find_in_plane, element_starts}
 use Rattle.op_build.proofs.Lists.{same_fours}
 use Rattle.op_build.proofs.Shapes.{first_size, HasType, element_type_is}
 use Rattle.op_build.proofs.WordBits.{number_end}
@@ -64,12 +62,6 @@ element_from desc frame counts place i at size number typed small size_is within
     ∙ turned_back frame small desc.be size at (subst IsSize size_is typed.size)
     ∙ ap (λ s. number_at s frame at) (sym bytes_are)
     ∙ sym (element_of_at elem counts frame place i at within (ap (λ s. element_in (pixel_count place) (pixel_number place) 0 counts i * s) bytes_are ∙ begins))
-
--- a pixel has no other elements
-pub no_element : (elem : PixType) (counts frame : List ℕ) (place : Place) (i : ℕ) → sum counts ≤ i → element_of elem counts frame place i ≡ 0
-unfolding element_of
-no_element elem counts frame place i past =
-    cond-false (nat_lt i (sum counts)) (element elem frame (element_in (pixel_count place) (pixel_number place) 0 counts i)) 0 (le-ltb i (sum counts) past)
 
 module _ (desc : Desc) (width rows x row : ℕ) (value : ℕ → ℕ → ℕ → ℕ) (frame : List ℕ) (laid : IsLaidOut desc) (says : IsFrameOf desc width rows value frame)
     (column : x < width) (line : row < rows) (size : ℕ) (is : HasElements desc size) (sizes : IsSize size) where
@@ -188,11 +180,7 @@ module _ (desc : Desc) (place : Place) (value : ℕ → ℕ → ℕ → ℕ) (vs
         let p = c.plane in
         let r = count_of (first_byte desc c) / size in
         let fits = gives.fit j place.x place.row slot.0 gives.column gives.row in
-        let there : IsInPlane (element_counts desc) i p r = record {
-          plane = omega (arith, length-counts desc, laid.plane j slot.0);
-          inside = first_in_plane desc size laid is j slot.0;
-          index = sym slot.1 ∙ element_index_is desc size laid is j;
-        } in
+        let there : IsInPlane (element_counts desc) i p r = subst (λ k. IsInPlane (element_counts desc) k p r) slot.1 (component_in_plane desc size laid is j slot.0) in
         let room : c.shift + c.depth ≤ 8 * size = omega (arith, number_end desc laid j slot.0, is.read j slot.0) in
         let type_bits : bits elem ≡ 8 * size = typed.bits ∙ ap (λ s. 8 * s) is.bytes in
         let whole : v < 2 ^ bits elem = fits_type v c.depth (bits elem) (omega arith) fits in
@@ -219,7 +207,7 @@ module _ (desc : Desc) (place : Place) (value : ℕ → ℕ → ℕ → ℕ) (vs
         (slot_cases (get_or (slots desc) i None)))
         (λ (past : sum (element_counts desc) ≤ i).
         cond-false (nat_lt i (sum (element_counts desc))) made_here 0 (le-ltb i (sum (element_counts desc)) past)
-        ∙ sym (no_element (element_type desc) (element_counts desc) made place_again i past))
+        ∙ sym (element_of-past (element_type desc) (element_counts desc) made place_again i past))
         (cases_lt i (sum (element_counts desc)))
 
     pub encode_elements : (frame : List ℕ) → run_from frame place (Typed Rat) (encode desc) (Fractions (four vs))

@@ -27,13 +27,14 @@ use Rattle.op_list.specs.Whole.{field, bits_below}
 use Rattle.op_list.specs.Pixel.{number_at, element_of}
 use Rattle.op_list.specs.Apply.{packed}
 use Rattle.op_list.specs.Run.{run_from}
+use Rattle.op_list.proofs.Stored.{element_of-past}
 use Rattle.op_build.specs.Meaning.{elements_at}
 use Rattle.op_build.specs.Recipe.{encode, to_places, spare_zeros}
 use Rattle.op_build.specs.Shape.{element_type, element_counts, element_slot, fields, no_field, field_widths, is_swapped, slots, position_of}
 use Rattle.op_build.proofs.ByteNumbers.{in_order, bit_at_in_order}
 use Rattle.op_build.proofs.ElementStarts.{word_begins}
 use Rattle.op_build.proofs.EncodeBits.{bit_in_order-below, bit_in_order-apart}
-use Rattle.op_build.proofs.EncodeElements.{slot_cases, element_from, no_element, GivesValues, made, made_says, place_again}
+use Rattle.op_build.proofs.EncodeElements.{slot_cases, element_from, GivesValues, made, made_says, place_again}
 use Rattle.op_build.proofs.EncodeOrder.{IsSize, ordered_below}
 use Rattle.op_build.proofs.EncodePacked.{packed_fields}
 use Rattle.op_build.proofs.EncodePlaces.{fits_type, spare_place, component_place}
@@ -206,7 +207,7 @@ module _ (desc : Desc) (place : Place) (value : ℕ → ℕ → ℕ → ℕ) (vs
   four_are a b c d g p q r s = cc
 
   none_there : (i : ℕ) → 1 ≤ i → 0 ≡ element_of (element_type desc) (1 ∷ 0 ∷ 0 ∷ 0 ∷ []) frame_made (place_again desc place value vs gives) i
-  none_there i past = sym (no_element (element_type desc) (1 ∷ 0 ∷ 0 ∷ 0 ∷ []) frame_made (place_again desc place value vs gives) i past)
+  none_there i past = sym (element_of-past (element_type desc) (1 ∷ 0 ∷ 0 ∷ 0 ∷ []) frame_made (place_again desc place value vs gives) i past)
 
   pub encode_word : (frame : List ℕ) → run_from frame place (Typed Rat) (encode desc) (Fractions (four vs))
       ≡ Numbers (elements_at desc frame_made place.width place.rows place.x place.row)

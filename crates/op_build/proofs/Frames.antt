@@ -21,7 +21,7 @@ use Rattle.op_build.proofs.DecodePalette as palette
 use Rattle.op_build.proofs.DecodePalette.{is_byte_format}
 use Rattle.op_build.proofs.DecodePlain as plain
 use Rattle.op_build.proofs.ElementPlaces.{HasElements}
-use Rattle.op_build.proofs.EncodeStarts.{plane_start_is}
+use Rattle.op_build.proofs.ElementStarts.{plane_start_is}
 use Rattle.op_build.proofs.Planes.{component_in}
 use Rattle.op_build.proofs.ReadLengths.{elements_length, palette_length}
 use Rattle.op_build.proofs.Shapes.{first_size, has_layout, has_type, element_counts_are_good}

@@ -9,7 +9,6 @@ pub mod WordFields
 pub mod WordLayout
 pub mod WordShape
 pub mod Shapes
-pub mod Runs
 pub mod ByteNumbers
 pub mod ElementStarts
 pub mod FieldValues
@@ -25,7 +24,6 @@ pub mod Convert
 pub mod EncodeRuns
 pub mod EncodePlaces
 pub mod EncodeOrder
-pub mod EncodeStarts
 pub mod EncodeBits
 pub mod EncodeElements
 pub mod EncodePacked

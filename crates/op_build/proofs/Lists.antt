@@ -1,7 +1,7 @@
--- Lists of four, and the first number of a range that passes a test.
-use Rattle.std.proofs.Common.{◌≡◌, ◌≢◌, ℕ, zero, suc, ◌<◌, ◌≤◌, ⊎_elim, Bool, true, false, length, get_or, Some, None, sym, refl, ap, ◌∙◌, arith}
+-- Lists of four, four tests, and the first number of a range that passes a test.
+use Rattle.std.proofs.Common.{◌≡◌, ◌≢◌, ℕ, zero, suc, ◌<◌, ◌≤◌, ⊎_elim, Bool, true, false, ◌&&◌, length, get_or, Some, None, sym, refl, ap, ◌∙◌, arith}
 use Rattle.std.specs.List.{range_with_len, find, position_or_len, slice_get}
-use Rattle.std.proofs.lemmas.Bool.{cases_lt}
+use Rattle.std.proofs.lemmas.Bool.{and_from, cases_lt}
 use Rattle.std.proofs.lemmas.List.Folds.{find_at}
 use Rattle.std.proofs.lemmas.List.FromFn.{length-range_with_len, get_or-range_with_len}
 use Rattle.std.proofs.lemmas.List.Sums.{position_or_len_is, fails_before_first, passes_at_first}
@@ -19,6 +19,14 @@ get_or-four f (suc (suc (suc (suc i)))) d below = absurd (omega arith)
 -- lists of four whose elements agree
 pub same_fours : {A : Type 0} (f g : ℕ → A) → ((i : ℕ) → i < 4 → f i ≡ g i) → four f ≡ four g
 same_fours f g same = let first = same 0 (omega arith) in let second = same 1 (omega arith) in let third = same 2 (omega arith) in let fourth = same 3 (omega arith) in cc
+
+-- four tests that hold
+pub four_hold : (test : ℕ → Bool) → ((i : ℕ) → i < 4 → test i ≡ true) → (test 0 && (test 1 && (test 2 && (test 3 && true)))) ≡ true
+four_hold test each =
+    and_from (test 0) (test 1 && (test 2 && (test 3 && true))) (each 0 (omega arith))
+    (and_from (test 1) (test 2 && (test 3 && true)) (each 1 (omega arith))
+    (and_from (test 2) (test 3 && true) (each 2 (omega arith))
+    (and_from (test 3) true (each 3 (omega arith)) refl)))
 
 -- number k of a range
 pub get_or-range : (n k : ℕ) → k < n → get_or (range_with_len 0 n) k 0 ≡ k

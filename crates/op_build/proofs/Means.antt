@@ -1,11 +1,10 @@
 -- The list of a valid pair means the target rows: decoding, conversion and encoding, one behind the other.
-use Rattle.std.proofs.Common.{◌≡◌, ◌<◌, ◌^◌, ℕ, ◌+◌, false, if◌then◌else◌, List, ◌++◌, All, refl, ◌∙◌, ap, subst}
-use Rattle.pix_desc.specs.Component.{component_of}
-use Rattle.pix_desc.specs.Frame.{frame_of, FitDepths}
+use Rattle.std.proofs.Common.{◌≡◌, ◌<◌, ℕ, ◌+◌, false, List, ◌++◌, All, refl, ◌∙◌, ap}
+use Rattle.pix_desc.specs.Frame.{frame_of}
 use Rattle.pix_meaning.specs.declared.pair.Pair.{Pair}
 use Rattle.pix_meaning.specs.Pairs.{IsValidPair}
 use Rattle.pix_meaning.specs.Target.{result_of, target_rows}
-use Rattle.pix_meaning.proofs.TargetLaws.{result_below}
+use Rattle.pix_meaning.proofs.TargetLaws.{results_fit}
 use Rattle.op_list.specs.declared.op.Op.{Op}
 use Rattle.op_list.specs.declared.place.Place.{Place}
 use Rattle.op_list.specs.declared.types.Stage.TheVariants.{Start}
@@ -13,17 +12,13 @@ use Rattle.op_list.specs.declared.values.Values.TheVariants.{Numbers, Fractions}
 use Rattle.op_list.specs.Values.{four, number, no_values}
 use Rattle.op_list.specs.Typing.{stage_from}
 use Rattle.op_list.specs.Run.{run, run_from}
+use Rattle.op_list.proofs.Exact.{run_from-append}
+use Rattle.op_list.proofs.Pushed.{stage_from-append}
 use Rattle.op_build.specs.Recipe.{decode, convert, encode, recipe}
 use Rattle.op_build.specs.Meaning.{elements_at, MeansItsTarget}
-use Rattle.op_build.proofs.Runs.{run_from-append, stage_from-append}
 use Rattle.op_build.proofs.Decode.{decode_gives}
 use Rattle.op_build.proofs.Convert.{convert_gives, coded}
 use Rattle.op_build.proofs.Encode.{encode_gives}
-
--- the results fit the depths of a target without a palette
-results_fit : (pair : Pair) (width rows first : ℕ) (frame : List ℕ) → pair.to.desc.palette ≡ false → FitDepths pair.to.desc width rows (result_of pair width rows first frame)
-results_fit pair width rows first frame none = λ j x y listed across down.
-    subst (λ p. result_of pair width rows first frame j x y < 2 ^ (if p then 8 else (component_of pair.to.desc j).depth)) none (result_below pair width rows first frame j x y)
 
 -- a list of three parts
 three_parts : (frame : List ℕ) (place : Place) (first second third : List Op) → run_from frame place Start (first ++ second ++ third) no_values

@@ -1,6 +1,6 @@
 -- The steps of the planes: of which components they are, and what they come to where each plane used is counted once.
-use Rattle.std.proofs.Common.{◌≡◌, ◌≢◌, ℕ, suc, ◌+◌, ◌/◌, ◌<◌, ◌≤◌, ⊎_elim, Bool, true, not, if◌then◌else◌, nat_eq, List, [], ◌∷◌, length, get_or, eqb-true, eq-zero-or-pos, sym, refl, ap, ◌∙◌, arith}
-use Rattle.std.specs.List.{range_with_len, list_all, filter, sum_by}
+use Rattle.std.proofs.Common.{◌≡◌, ◌≢◌, ℕ, suc, ◌+◌, ◌/◌, ◌<◌, ◌≤◌, ⊎_elim, Bool, true, not, if◌then◌else◌, nat_eq, List, [], ◌∷◌, length, get_or, eq-zero-or-pos, sym, refl, ap, ◌∙◌, arith}
+use Rattle.std.specs.List.{filter, sum_by}
 use Rattle.std.proofs.lemmas.Bool.{cond_both, cond-false, cases_eq, ne_eqb}
 use Rattle.std.proofs.lemmas.Bool.Decides.{nat_tests}
 use Rattle.std.proofs.lemmas.List.{nil_from_length}
@@ -9,8 +9,9 @@ use Rattle.pix_desc.specs.declared.desc.Comp.{Comp}
 use Rattle.pix_desc.specs.declared.desc.Desc.{Desc}
 use Rattle.pix_desc.specs.Component.{components, component_of, no_component, bytes_read}
 use Rattle.pix_desc.specs.Frame.{step_in, plane_step}
-use Rattle.pix_desc.specs.Layouts.{IsLaidOut, some_component, one_a_plane, has_all_planes}
-use Rattle.pix_desc.proofs.ComponentLists.{list_all-map_true, list_all-below_true, some_component-at, get_or-components, length-components}
+use Rattle.pix_desc.specs.Layouts.{IsLaidOut, one_a_plane, has_all_planes}
+use Rattle.pix_desc.proofs.ComponentLists.{get_or-components, length-components}
+use Rattle.pix_desc.proofs.Valid.{plane_used}
 
 -- a number of the first component in a plane, and 0 where none lies in it
 abbrev pub first_in : (Comp → ℕ) → ℕ → List Comp → ℕ
@@ -96,15 +97,6 @@ component_in desc plane some =
     let listed : place.0 < desc.count = omega (arith, place.1, length-components desc) in
     (place.0, listed, ap (λ c. c.plane) (sym (get_or-components desc place.0 no_component listed)) ∙ place.2)
 
--- a component lies in each plane below that of a component
-pub component_below : (desc : Desc) (j plane : ℕ) → has_all_planes desc ≡ true → j < desc.count → plane < (component_of desc j).plane
-    → (i : ℕ) × (i < desc.count) × ((component_of desc i).plane ≡ plane)
-component_below desc j plane all listed below =
-    let each = list_all-map_true (component_of desc) (λ c. list_all (λ p. some_component desc (λ d. nat_eq d.plane p)) (range_with_len 0 c.plane)) desc.count j all listed in
-    let one = list_all-below_true (λ p. some_component desc (λ d. nat_eq d.plane p)) (component_of desc j).plane plane each below in
-    let at = some_component-at desc (λ d. nat_eq d.plane plane) one in
-    (at.0, at.1, eqb-true (component_of desc at.0).plane plane at.2)
-
 -- a component's plane has the bytes of its number
 pub step_by : (desc : Desc) (j plane : ℕ) → IsLaidOut desc → j < desc.count → (component_of desc j).plane ≡ plane → bytes_read (component_of desc j) ≤ plane_step desc plane
 step_by desc j plane laid listed there = omega (arith, ap (plane_step desc) there, laid.step j listed, laid.inside j listed)
@@ -139,7 +131,7 @@ module _ (desc : Desc) (laid : IsLaidOut desc) (all : has_all_planes desc ≡ tr
       ⊎_elim
       (λ none. none)
       (λ (some : 0 < (component_of desc j).plane).
-      let first = component_below desc j 0 all listed some in
+      let first = plane_used desc j 0 all listed some in
       absurd (omega (arith, first.2, plane_is first.0 first.1, plane_is j listed)))
       (eq-zero-or-pos (component_of desc j).plane)
 

@@ -1,5 +1,5 @@
 -- The recipe of a valid pair is a list of operations: each may follow those before it and has good arguments, and there are at most 20.
-use Rattle.std.proofs.Common.{◌≡◌, ℕ, ◌+◌, ◌-◌, ◌^◌, ◌<◌, ◌≤◌, ⊎_elim, Bool, true, false, not, ◌&&◌, if◌then◌else◌, nat_eq, List, [], ◌∷◌, ◌++◌, length, get_or, Option, Some, None, sym, refl, ap, subst, ◌∙◌, arith}
+use Rattle.std.proofs.Common.{◌≡◌, ℕ, ◌+◌, ◌-◌, ◌^◌, ◌<◌, ◌≤◌, ⊎_elim, Bool, true, false, not, ◌&&◌, if◌then◌else◌, List, [], ◌∷◌, ◌++◌, length, get_or, Option, Some, None, sym, refl, ap, subst, ◌∙◌, arith}
 use Rattle.std.specs.Prelude.{nat_lt}
 use Rattle.std.specs.List.{list_all}
 use Rattle.std.proofs.lemmas.Bool.{and_from, and_parts, or_right, cond_both, cond-true, cond-false, lt-ltb, le-leb, cases_lt}
@@ -12,7 +12,7 @@ use Rattle.pix_desc.specs.Layouts.{IsValid, is_elements}
 use Rattle.pix_desc.proofs.Valid.{laid_out}
 use Rattle.pix_meaning.specs.declared.pair.Pair.{Pair}
 use Rattle.pix_meaning.specs.declared.pair.Side.{Side}
-use Rattle.pix_meaning.specs.Pairs.{IsValidPair, channel_of, component_count, is_rgb}
+use Rattle.pix_meaning.specs.Pairs.{IsValidPair, channel_of, is_rgb}
 use Rattle.op_list.specs.declared.op.Op.{Op}
 use Rattle.op_list.specs.declared.op.Op.TheVariants.{Write, SwapBytes, Pack, Clear, LeftShift, Swizzle, Convert, Dither, Linear, Scale, Min, Max}
 use Rattle.op_list.specs.declared.types.PixType.{PixType}
@@ -27,6 +27,8 @@ use Rattle.op_build.specs.Recipe.{decode, convert, encode, recipe, only_if, from
 use Rattle.op_build.proofs.Decode.{decode_stage}
 use Rattle.op_build.proofs.DecodeTyped.{decode_typed}
 use Rattle.op_build.proofs.ElementPlaces.{HasElements}
+use Rattle.op_build.proofs.EncodePlaces.{channel_below}
+use Rattle.op_build.proofs.Lists.{four_hold}
 use Rattle.op_build.proofs.Shapes.{first_size, has_layout, has_places, has_type, element_counts_are_good, field_widths_are_good}
 use Rattle.op_build.proofs.WordBits.{number_end}
 use Rattle.op_build.proofs.WordShape.{HasWord}
@@ -147,16 +149,6 @@ convert_part pair elem within =
 
 -- ---- the third part
 
-four_pass : (test : ℕ → Bool) → ((i : ℕ) → i < 4 → test i ≡ true) → (test 0 && (test 1 && (test 2 && (test 3 && true)))) ≡ true
-four_pass test each =
-    and_from (test 0) (test 1 && (test 2 && (test 3 && true))) (each 0 (omega arith))
-    (and_from (test 1) (test 2 && (test 3 && true)) (each 1 (omega arith))
-    (and_from (test 2) (test 3 && true) (each 2 (omega arith))
-    (and_from (test 3) true (each 3 (omega arith)) refl)))
-
-channel_below : (desc : Desc) (j : ℕ) → j < 4 → channel_of desc j < 4
-channel_below desc j below = cond_both (desc.alpha && nat_eq (j + 1) (component_count desc)) 3 j (λ c. c < 4) (λ _. omega arith) (λ _. below)
-
 source_below : (desc : Desc) (p : ℕ) (slot : Option ℕ) → p < 4 → ((j : ℕ) → slot ≡ Some j → j < 4) → nat_lt (source_of desc p slot) 4 ≡ true
 source_below desc p None below held = lt-ltb p 4 below
 source_below desc p (Some j) below held = lt-ltb (channel_of desc j) 4 (channel_below desc j (held j refl))
@@ -171,7 +163,7 @@ slot_below desc p j valid here =
 
 to_places_fit : (desc : Desc) → IsValid desc → list_all (λ i. nat_lt i 4) (to_places desc) ≡ true
 to_places_fit desc valid =
-    four_pass (λ p. nat_lt (source_of desc p (get_or (slots desc) p None)) 4)
+    four_hold (λ p. nat_lt (source_of desc p (get_or (slots desc) p None)) 4)
     (λ p below. source_below desc p (get_or (slots desc) p None) below (λ j here. slot_below desc p j valid here))
 
 zero_fits : (count : ℕ) → entry_fits count (Some (nat 0)) ≡ true
@@ -184,7 +176,7 @@ spare_fits desc count p None =
 
 spare_zeros_fit : (desc : Desc) (count : ℕ) → all_fit count (spare_zeros desc) ≡ true
 spare_zeros_fit desc count =
-    four_pass (λ p. entry_fits count (spare_zero desc p (get_or (slots desc) p None))) (λ p below. spare_fits desc count p (get_or (slots desc) p None))
+    four_hold (λ p. entry_fits count (spare_zero desc p (get_or (slots desc) p None))) (λ p below. spare_fits desc count p (get_or (slots desc) p None))
 
 same_type : (elem : PixType) → is_same elem elem ≡ true
 same_type U8 = refl

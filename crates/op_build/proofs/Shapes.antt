@@ -1,6 +1,5 @@
 -- The shape of a pixel of a descriptor that passes the check, in either layout.
 use Rattle.std.proofs.Common.{◌≡◌, ℕ, ◌*◌, ◌<◌, ◌≤◌, ◌⊎◌, ⊎_elim, inl, inr, true, false, not, ◌&&◌, ◌||◌, if◌then◌else◌, nat_le, nat_eq, length, get_or, Some, None, sym, refl, ap, ◌∙◌, arith}
-use Rattle.std.specs.Prelude.{sum}
 use Rattle.std.proofs.lemmas.Bool.{and_parts, or_parts, or_cases, not-true, not-false, cases_Bool, cases_cond, both_ways}
 use Rattle.std.proofs.lemmas.List.Sums.{sum_by-drop_more}
 use Rattle.pix_desc.specs.declared.desc.Desc.{Desc}
@@ -17,7 +16,7 @@ use Rattle.op_build.specs.Shape.{element_bytes, element_type, element_counts, el
 use Rattle.op_build.proofs.Counts.{sum-counts, element_counts_good}
 use Rattle.op_build.proofs.ElementPlaces.{HasElements, has_elements, element_index-below, length-slots, slot_holds, index_slot}
 use Rattle.op_build.proofs.Slots.{position_is}
-use Rattle.op_build.proofs.WordShape.{HasWord, has_word, word_slots_few, slot_field, slot_found, field_widths_good, sum-widths, rest_below, length-field_widths}
+use Rattle.op_build.proofs.WordShape.{HasWord, has_word, word_slots_few, slot_field, slot_found, field_widths_good, rest_below, length-field_widths}
 
 abbrev pub first_size : Desc → ℕ
 first_size desc = bytes_read (component_of desc 0)
@@ -167,6 +166,3 @@ pub field_widths_are_good : (desc : Desc) → HasWord desc → are_counts (bits 
 field_widths_are_good desc is =
     let e : bits (element_type desc) ≡ 8 * (component_of desc 0).step = (word_type_is desc is).bits ∙ ap (λ s. 8 * s) is.bytes in
     ap (λ most. are_counts most (field_widths desc)) e ∙ field_widths_good desc is
-
-pub sum-field_widths : (desc : Desc) → HasWord desc → sum (field_widths desc) ≡ bits (element_type desc)
-sum-field_widths desc is = omega (arith, sum-widths desc is, (word_type_is desc is).bits, is.bytes)

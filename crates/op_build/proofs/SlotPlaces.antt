@@ -78,13 +78,6 @@ module _ (desc : Desc) (valid : IsValid desc) where
       (λ (past : length (fields desc) ≤ p). omega (arith, ap (λ f. f.width) (get_or_past (fields desc) p no_field past)))
       (cases_lt p (length (fields desc)))
 
-  pub position_at : (i j : ℕ) → get_or (slots desc) i None ≡ Some j → i ≡ position_of desc j
-  position_at i j here =
-      ⊎_elim
-      (λ (inside : i < length (slots desc)). sym ((has_places desc valid).only i j inside here).1)
-      (λ (past : length (slots desc) ≤ i). let none : None ≡ Some j = sym (get_or_past (slots desc) i None past) ∙ here in absurd cc)
-      (cases_lt i (length (slots desc)))
-
   not_at : (p i j : ℕ) → get_or (slots desc) p None ≡ Some j → get_or (slots desc) i None ≢ Some j → p ≢ i
   not_at p i j here other = λ same. other (ap (λ k. get_or (slots desc) k None) (sym same) ∙ here)
 

@@ -99,16 +99,23 @@ for_each (x ∷ xs) f = f x ++ for_each xs f
 abbrev pub named_matrices : List Matrix
 named_matrices = of_parts 1000 299 114 ∷ of_parts 10000 2126 722 ∷ of_parts 10000 2627 593 ∷ of_parts 1000 212 87 ∷ of_parts 100 30 11 ∷ []
 
+-- the depths of luma and chroma: all channels have the same
+abbrev pub yuv_depths : List ℕ
+yuv_depths = 8 ∷ 9 ∷ 10 ∷ 12 ∷ 14 ∷ 16 ∷ []
+
+-- the depths of red, green, blue and alpha
+abbrev pub rgb_depths : List (List ℕ)
+rgb_depths =
+    four (λ c. 8) ∷ four (λ c. 9) ∷ four (λ c. 10) ∷ four (λ c. 12) ∷ four (λ c. 14) ∷ four (λ c. 16) ∷ four (λ c. 5) ∷ four (λ c. 4)
+    ∷ (5 ∷ 6 ∷ 5 ∷ 5 ∷ []) ∷ (3 ∷ 3 ∷ 2 ∷ 3 ∷ []) ∷ (1 ∷ 2 ∷ 1 ∷ 1 ∷ []) ∷ []
+
 abbrev pub yuv_classes : List SideClass
 yuv_classes =
-    for_each (8 ∷ 9 ∷ 10 ∷ 12 ∷ 14 ∷ 16 ∷ []) (λ depth. for_each (Full ∷ Limited ∷ []) (λ range. for_each named_matrices (λ matrix.
+    for_each yuv_depths (λ depth. for_each (Full ∷ Limited ∷ []) (λ range. for_each named_matrices (λ matrix.
     record { rgb = false; depths = four (λ c. depth); range = range; matrix = matrix } ∷ [])))
 
 abbrev pub rgb_classes : List SideClass
-rgb_classes =
-    for_each (four (λ c. 8) ∷ four (λ c. 9) ∷ four (λ c. 10) ∷ four (λ c. 12) ∷ four (λ c. 14) ∷ four (λ c. 16) ∷ four (λ c. 5) ∷ four (λ c. 4)
-    ∷ (5 ∷ 6 ∷ 5 ∷ 5 ∷ []) ∷ (3 ∷ 3 ∷ 2 ∷ 3 ∷ []) ∷ (1 ∷ 2 ∷ 1 ∷ 1 ∷ []) ∷ []) (λ depths.
-    record { rgb = true; depths = depths; range = Full; matrix = of_parts 1000 299 114 } ∷ [])
+rgb_classes = for_each rgb_depths (λ depths. record { rgb = true; depths = depths; range = Full; matrix = of_parts 1000 299 114 } ∷ [])
 
 unfoldable pub side_classes : List SideClass
 side_classes = rgb_classes ++ yuv_classes
