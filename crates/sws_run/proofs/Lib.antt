@@ -8,4 +8,5 @@ pub mod NamedMatrices
 pub mod TableClasses
 pub mod Evaluated
 pub mod TaskPairs
-pub mod Converted
+pub mod ConvertedPixels
+pub mod ReadyFrames

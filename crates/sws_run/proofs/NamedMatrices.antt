@@ -46,6 +46,3 @@ named_is_matrix matrix named =
 -- the matrix of the run
 pub bt601_is_named : IsNamed (of_parts 1000 299 114)
 bt601_is_named = record { name = codes "bt601"; found = refl }
-
-pub bt601_is_matrix : IsMatrix (of_parts 1000 299 114)
-bt601_is_matrix = named_is_matrix (of_parts 1000 299 114) bt601_is_named

@@ -1,5 +1,5 @@
 -- Frames taken from known bytes, and what is written for them.
-use Rattle.std.proofs.Common.{◌≡◌, ℕ, Bool, true, false, if◌then◌else◌, zero, suc, ◌+◌, ◌-◌, ◌*◌, ◌/◌, ◌<◌, ◌≤◌, List, [], ◌++◌, length, take, drop, refl, sym, ap, subst, ◌∙◌, arith, IfSome, append_assoc, add-one, length-append, length-drop, take_at, drop_at, append-nil}
+use Rattle.std.proofs.Common.{◌≡◌, ℕ, zero, suc, ◌+◌, ◌-◌, ◌*◌, ◌/◌, ◌<◌, ◌≤◌, List, [], ◌++◌, length, take, drop, refl, sym, ap, subst, ◌∙◌, arith, IfSome, append_assoc, add-one, length-append, length-drop, take_at, drop_at, append-nil}
 use Rattle.std.proofs.lemmas.List.{drop-drop}
 use Rattle.std.proofs.lemmas.Bool.Decides.{nat_tests}
 use Rattle.std.proofs.lemmas.Nat.{div-mul-add, le-div}
@@ -11,10 +11,11 @@ use Rattle.std.specs.declared.option.Option.TheVariants.{None, Some}
 use Rattle.std.specs.Io.KnownBytes.{Consumes, Appends, IsAtEnd}
 use Rattle.std.proofs.KnownBytes.{Appends-trans, Appends-nil}
 use Rattle.pix_desc.specs.declared.desc.Desc.{Desc}
-use Rattle.pix_desc.specs.Component.{component_of, is_narrow}
+use Rattle.pix_desc.specs.Component.{component_of}
 use Rattle.pix_desc.specs.Layouts.{IsValid}
 use Rattle.pix_desc.specs.Frame.{plane_step, frame_length}
 use Rattle.pix_desc.proofs.Valid.{laid_out}
+use Rattle.op_build.proofs.Planes.{bytes_read-positive}
 use Rattle.pix_io.proofs.Frames.{row_start-inside}
 use Rattle.desc_table.specs.Format.{desc_of}
 use Rattle.sws_run.specs.declared.words.Task.{Task}
@@ -163,17 +164,12 @@ written_part task left w0 w1 w2 k m frame out before is made small now =
 
 -- ---- a run at its ends
 
--- a component is read from some byte
-read-some : (narrow : Bool) → 0 < (if narrow then 1 else 2)
-read-some true = omega arith
-read-some false = omega arith
-
 -- a raw frame of some pixels has some bytes
 pub frame-some : (desc : Desc) (width height : ℕ) → IsValid desc → 0 < width → 0 < height → 0 < frame_length desc width height
 frame-some desc width height valid wide high =
     let laid = laid_out desc valid in
     let c = component_of desc 0 in
-    let reads = read-some (is_narrow c) in
+    let reads = bytes_read-positive c in
     let inside = laid.inside 0 laid.some in
     let step : 0 < plane_step desc c.plane = omega (arith, laid.step 0 laid.some, inside, reads) in
     let row : 0 < width * plane_step desc c.plane = mul-pos wide step in

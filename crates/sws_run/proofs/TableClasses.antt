@@ -13,20 +13,12 @@ use Rattle.desc_table.specs.Format.{formats, format_count, desc_of}
 use Rattle.desc_table.proofs.Rows.{agree_at_row}
 use Rattle.op_list.specs.Values.{four}
 use Rattle.op_build.specs.Recipe.{channel_depth}
-use Rattle.op_build.specs.BoundClasses.{SideClass, side_class_of, side_class, for_each, named_matrices, rgb_classes, yuv_classes, side_classes, IsOneOf}
+use Rattle.op_build.specs.BoundClasses.{SideClass, side_class_of, side_class, for_each, named_matrices, rgb_depths, yuv_depths, rgb_classes, yuv_classes, side_classes, IsOneOf}
 use Rattle.sws_run.specs.Evaluated.{IsNamed, side_at}
 use Rattle.sws_run.proofs.Members.{in_first, in_second, in_each, found_one}
 use Rattle.sws_run.proofs.NamedMatrices.{listed_matrix}
 
 -- ---- the kinds of formats: whether they are of red, green and blue, and the depths of their channels
-
-abbrev rgb_depths : List (List ℕ)
-rgb_depths =
-    four (λ c. 8) ∷ four (λ c. 9) ∷ four (λ c. 10) ∷ four (λ c. 12) ∷ four (λ c. 14) ∷ four (λ c. 16) ∷ four (λ c. 5) ∷ four (λ c. 4)
-    ∷ (5 ∷ 6 ∷ 5 ∷ 5 ∷ []) ∷ (3 ∷ 3 ∷ 2 ∷ 3 ∷ []) ∷ (1 ∷ 2 ∷ 1 ∷ 1 ∷ []) ∷ []
-
-abbrev yuv_depths : List ℕ
-yuv_depths = 8 ∷ 9 ∷ 10 ∷ 12 ∷ 14 ∷ 16 ∷ []
 
 abbrev has_kind : Bool → List ℕ → Bool
 has_kind true depths = list_any (λ listed. bytes_eq depths listed) rgb_depths

@@ -1,6 +1,6 @@
 use Rattle.std.proofs.Common.{◌≡◌, ◌*◌, ◌∙◌, subst, arith}
 use Rattle.sws_run.specs.Conversion.{IsConverted}
-use Rattle.sws_run.proofs.Converted.{are_bytes, all_converted}
+use Rattle.sws_run.proofs.ReadyFrames.{are_bytes, all_converted}
 use Rattle.sws_run.proofs.convert.Conversion.convert_frame.Goals as goal
 
 pub returns : goal.returns

@@ -1,6 +1,7 @@
 use Rattle.std.proofs.Common.{◌∙◌, refl, sym, subst}
 use Rattle.std.specs.Prelude.{IsSome}
-use Rattle.sws_run.proofs.Converted.{are_bytes, list_is_whole, reads_input, has_elements, evaluates, stores, converted_more}
+use Rattle.sws_run.proofs.ConvertedPixels.{converted_more}
+use Rattle.sws_run.proofs.ReadyFrames.{are_bytes, list_is_whole, reads_input, has_elements, evaluates, stores}
 use Rattle.sws_run.proofs.convert.Conversion.convert_pixel.Goals as goal
 
 pub run_pixel-requires-clause-whole : goal.run_pixel-requires-clause-whole
