@@ -1,10 +1,10 @@
 -- Each coefficient is a fraction of two whole numbers, as the code makes it.
 use Rattle.std.proofs.Common.{◌≡◌, ◌-◌, ◌*◌, [], ◌∷◌, pos, neg_ℤ, refl, ◌∙◌, arith}
 use Rattle.frac_math.specs.Fraction.{ℚ, nat, over, ◌*ℚ◌, ◌-ℚ◌}
+use Rattle.frac_math.proofs.Naturals.{nat-mul, over_quotient, over_negative}
 use Rattle.colour_matrix.specs.Matrix.{IsMatrix}
 use Rattle.colour_matrix.specs.Colour.{green_of, to_rgb_rows, from_rgb_rows}
 use Rattle.colour_matrix.specs.declared.matrix.Matrix.{Matrix}
-use Rattle.colour_matrix.proofs.Quotients.{nat-mul, over_quotient, over_negative}
 use Rattle.colour_matrix.proofs.Parts.{differences}
 
 -- the coefficients of `to_rgb`

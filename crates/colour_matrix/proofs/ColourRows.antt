@@ -2,12 +2,12 @@
 use Rattle.std.proofs.Common.{◌≡◌, [], ◌∷◌, pos, refl, ◌∙◌, ap, arith}
 use Rattle.frac_math.specs.Fraction.{ℚ, nat, ◌+ℚ◌, ◌*ℚ◌, ◌-ℚ◌, inverse, neg_ℚ}
 use Rattle.frac_math.proofs.Ring.{var, num, ◌⊕◌, ◌⊖◌, ◌⊗◌, minus, ring, ring_from, done, by}
-use Rattle.frac_math.proofs.FractionRing.{fractions}
+use Rattle.frac_math.proofs.FractionRing.{fractions, add_assoc, add_reversed}
+use Rattle.frac_math.proofs.Naturals.{inverse_of}
 use Rattle.colour_matrix.specs.Matrix.{IsMatrix}
 use Rattle.colour_matrix.specs.Values.{Values, by_rows, product, identity}
 use Rattle.colour_matrix.specs.Colour.{green_of, to_rgb, from_rgb, to_rgb_rows, from_rgb_rows}
 use Rattle.colour_matrix.specs.declared.matrix.Matrix.{Matrix}
-use Rattle.colour_matrix.proofs.Quotients.{inverse_of}
 use Rattle.colour_matrix.proofs.Rows.{same_values, product_is}
 use Rattle.colour_matrix.proofs.Parts.{inverses}
 use Rattle.colour_matrix.proofs.ColourLaws.{from_rgb-to_rgb, to_rgb-from_rgb}
@@ -47,16 +47,7 @@ chroma_row q s o g x other green iq id half h hd hh =
     (by (X ⊗ (Q ⊖ S) ⊗ ID) (num (pos 2) ⊗ HALF) (num (pos 1)) done)))
     (h, (hd, (hh, tt))) refl
 
--- the same three products in the order of the rows U and V, and the sum in luma in its order
-blue_order : (a b c : ℚ) → a +ℚ b +ℚ c ≡ c +ℚ (b +ℚ a)
-blue_order a b c = ring fractions (a ∷ b ∷ c ∷ []) (var 0 ⊕ var 1 ⊕ var 2) (var 2 ⊕ (var 1 ⊕ var 0)) refl
-
-red_order : (a b c : ℚ) → a +ℚ b +ℚ c ≡ a +ℚ (b +ℚ c)
-red_order a b c = ring fractions (a ∷ b ∷ c ∷ []) (var 0 ⊕ var 1 ⊕ var 2) (var 0 ⊕ (var 1 ⊕ var 2)) refl
-
-reversed : (a b c : ℚ) → a +ℚ b +ℚ c ≡ c +ℚ b +ℚ a
-reversed a b c = ring fractions (a ∷ b ∷ c ∷ []) (var 0 ⊕ var 1 ⊕ var 2) (var 2 ⊕ var 1 ⊕ var 0) refl
-
+-- `chroma_row` has the product of the row's own colour first, where the row U and luma have it last
 pub by_rows-from_rgb_rows : (m : Matrix) (c : Values) → IsMatrix m → by_rows (from_rgb_rows m) c ≡ from_rgb m c
 unfolding from_rgb from_rgb_rows
 by_rows-from_rgb_rows m c h =
@@ -64,11 +55,12 @@ by_rows-from_rgb_rows m c h =
     let q = nat m.q in let r = nat m.r in let b = nat m.b in let g = green_of m in
     let id = inverse (nat 2 *ℚ (q -ℚ b)) in
     let half : nat 2 *ℚ inverse (nat 2) ≡ nat 1 = inverse_of (nat 2) 2 refl (omega arith) in
-    let blue = blue_order (neg_ℚ (r *ℚ id) *ℚ c.first) (neg_ℚ (g *ℚ id) *ℚ c.second) (nat 1 *ℚ inverse (nat 2) *ℚ c.third)
+    let blue = add_reversed (neg_ℚ (r *ℚ id) *ℚ c.first) (neg_ℚ (g *ℚ id) *ℚ c.second) (nat 1 *ℚ inverse (nat 2) *ℚ c.third)
+    ∙ add_assoc (nat 1 *ℚ inverse (nat 2) *ℚ c.third) (neg_ℚ (g *ℚ id) *ℚ c.second) (neg_ℚ (r *ℚ id) *ℚ c.first)
     ∙ chroma_row q b r g c.third c.first c.second (inverse q) id (inverse (nat 2)) i.of_q i.of_b half
-    ∙ ap (λ y. (c.third -ℚ y *ℚ inverse q) *ℚ q *ℚ id) (reversed (b *ℚ c.third) (g *ℚ c.second) (r *ℚ c.first)) in
+    ∙ ap (λ y. (c.third -ℚ y *ℚ inverse q) *ℚ q *ℚ id) (add_reversed (b *ℚ c.third) (g *ℚ c.second) (r *ℚ c.first)) in
     same_values _ _ (luma_row _ _ _ _ _ _ _) blue
-    (red_order _ _ _ ∙ chroma_row q r b g c.first c.third c.second (inverse q) (inverse (nat 2 *ℚ (q -ℚ r))) (inverse (nat 2)) i.of_q i.of_r half)
+    (add_assoc _ _ _ ∙ chroma_row q r b g c.first c.third c.second (inverse q) (inverse (nat 2 *ℚ (q -ℚ r))) (inverse (nat 2)) i.of_q i.of_r half)
     refl
 
 -- the products of the two are the identity

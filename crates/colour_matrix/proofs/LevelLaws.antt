@@ -2,10 +2,10 @@
 use Rattle.std.proofs.Common.{◌≡◌, ℕ, ◌-◌, ◌*◌, ◌^◌, ◌<◌, ◌≤◌, pos, [], ◌∷◌, refl, arith}
 use Rattle.std.proofs.lemmas.Int.{ints}
 use Rattle.std.proofs.lemmas.Nat.{pow_below, pow_pos}
-use Rattle.frac_math.specs.Fraction.{ℚ, nat, over, ◌*ℚ◌, ◌<ℚ◌, inverse}
+use Rattle.frac_math.specs.Fraction.{ℚ, nat, over, ◌<ℚ◌, inverse}
 use Rattle.frac_math.proofs.Ring.{var, num, ◌⊕◌, ◌⊖◌, ◌⊗◌, ring_from, done, by}
-use Rattle.frac_math.proofs.FractionRing.{fractions, Stands, same, itself, over_stands, mul_stands, mul-inverse}
-use Rattle.frac_math.proofs.FractionOrder.{lt_by_cross}
+use Rattle.frac_math.proofs.FractionRing.{fractions, same, itself, over_stands, mul_stands}
+use Rattle.frac_math.proofs.FractionOrder.{stands_above_zero, inverse_of_positive, whole_lt}
 use Rattle.colour_matrix.specs.Levels.{levels, scaled_to, from_code, to_code}
 use Rattle.colour_matrix.specs.declared.class.Class.{Class}
 use Rattle.colour_matrix.specs.declared.class.Class.TheVariants.{Direct, Luma, Chroma}
@@ -19,20 +19,14 @@ unfolding scaled_to
 scaled_is depth code =
     same _ _ _ _ _ _ (over_stands (pos (2 ^ depth * code)) 256 (omega arith)) (mul_stands _ _ _ _ _ _ (over_stands (pos (2 ^ depth)) 256 (omega arith)) (itself (nat code))) refl
 
-positive_of : (x : ℚ) (n d : ℕ) → Stands x (pos n) d → 0 < n → nat 0 <ℚ x
-positive_of x n d s h = lt_by_cross (nat 0) x (pos 0) (pos n) 1 d (itself (nat 0)) s (omega (arith, ints))
-
-whole_positive : (n : ℕ) → 0 < n → nat 0 <ℚ nat n
-whole_positive n h = positive_of (nat n) n 1 (itself (nat n)) h
-
 scaled_positive : (depth code : ℕ) → 0 < code → nat 0 <ℚ scaled_to depth code
 scaled_positive depth code h =
     let p = pow_pos depth in
     let more : 0 < 2 ^ depth * code = grind (arith, p) in
-    rw (← scaled_is depth code) (positive_of _ (2 ^ depth * code) 256 (over_stands (pos (2 ^ depth * code)) 256 (omega arith)) more)
+    rw (← scaled_is depth code) (stands_above_zero _ (2 ^ depth * code) 256 (over_stands (pos (2 ^ depth * code)) 256 (omega arith)) more)
 
 greatest_positive : (depth : ℕ) → 1 ≤ depth → nat 0 <ℚ nat (2 ^ depth - 1)
-greatest_positive depth h = whole_positive (2 ^ depth - 1) (omega (arith, pow_below 0 depth h))
+greatest_positive depth h = whole_lt (pos 0) (pos (2 ^ depth - 1)) (omega (arith, ints, pow_below 0 depth h))
 
 pub scale_positive : (class : Class) (depth : ℕ) (range : Range) → 1 ≤ depth → nat 0 <ℚ (levels class depth range).scale
 unfolding levels
@@ -41,9 +35,6 @@ scale_positive Chroma depth Limited h = scaled_positive depth 224 (omega arith)
 scale_positive Luma depth Full h = greatest_positive depth h
 scale_positive Chroma depth Full h = greatest_positive depth h
 scale_positive Direct depth range h = greatest_positive depth h
-
-pub inverse_of_positive : (x : ℚ) → nat 0 <ℚ x → x *ℚ inverse x ≡ nat 1
-inverse_of_positive x h = mul-inverse x (λ e. absurd (omega (arith, ints, h.below, e)))
 
 pub to_code-from_code : (l : Levels) (code : ℚ) → nat 0 <ℚ l.scale → to_code l (from_code l code) ≡ code
 unfolding to_code from_code

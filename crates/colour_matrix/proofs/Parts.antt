@@ -2,10 +2,10 @@
 use Rattle.std.proofs.Common.{◌≡◌, ◌-◌, ◌*◌, ◌<◌, ◌≤◌, refl, ◌∙◌, ap, arith}
 use native.Mathlib.Nat.{mul-pos}
 use Rattle.frac_math.specs.Fraction.{nat, ◌*ℚ◌, ◌-ℚ◌, inverse}
+use Rattle.frac_math.proofs.Naturals.{nat-sub, nat-mul, inverse_of}
 use Rattle.colour_matrix.specs.Matrix.{IsMatrix}
 use Rattle.colour_matrix.specs.Colour.{green_of}
 use Rattle.colour_matrix.specs.declared.matrix.Matrix.{Matrix}
-use Rattle.colour_matrix.proofs.Quotients.{nat-sub, nat-mul, inverse_of}
 
 -- differences of the parts, which are not below 0
 pub record Differences (m : Matrix) : Type 0 where

@@ -6,7 +6,8 @@ use Rattle.std.proofs.lemmas.Nat.{mod-pow-add, mod_below, div-mul-add}
 use native.Mathlib.Nat.{pow-suc, pow-le-pow_right, mod-eq_of_lt}
 use Rattle.frac_math.specs.Fraction.{ℚ, whole, nat, over, ◌+ℚ◌, ◌<ℚ◌, floor}
 use Rattle.frac_math.specs.Dither.{digit, index, index_sum, dither_at}
-use Rattle.frac_math.proofs.FractionRing.{Stands, itself, same, change, over_stands, add_stands, same_numerator}
+use Rattle.frac_math.specs.Standing.{Stands}
+use Rattle.frac_math.proofs.FractionRing.{itself, same, change, over_stands, add_stands, same_numerator}
 use Rattle.frac_math.proofs.FractionOrder.{lt_by_cross, le_of_lt_ℚ}
 use Rattle.frac_math.proofs.Floor.{floor_dither}
 

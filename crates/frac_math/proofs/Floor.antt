@@ -6,9 +6,10 @@ use borrow.Author.Differences.{product_is, at_most_in, le_out}
 use lib.Signed.{≤ℤ_refl}
 use native.Mathlib.Nat.{le-div_iff_mul-le, div-lt_iff_lt-mul}
 use Rattle.frac_math.specs.Fraction.{ℚ, whole, ◌+ℚ◌, ◌≤ℚ◌, ◌<ℚ◌, min_ℚ, max_ℚ, floor}
+use Rattle.frac_math.specs.Standing.{Stands}
 use Rattle.frac_math.proofs.Ring.{var, num, ◌⊕◌}
 use Rattle.frac_math.proofs.Integers.{mul-one_ℤ}
-use Rattle.frac_math.proofs.FractionRing.{Stands, denominator_positive, itself, whole-add}
+use Rattle.frac_math.proofs.FractionRing.{denominator_positive, itself, whole-add}
 use Rattle.frac_math.proofs.FractionOrder.{also, end, le_by_cross, cross_by_le, le_refl_ℚ, lt_not_le_ℚ, lt_of_not_le_ℚ, le_from, lt_from, le_trans_ℚ, add_le_ℚ, add_lt_ℚ, min_cases, max_cases}
 
 -- ---- floor

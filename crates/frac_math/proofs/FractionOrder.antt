@@ -6,9 +6,10 @@ use native.Mathlib.Nat.{mul-le-mul_right, le_of_mul-le-mul_right}
 use Rattle.std.specs.Ordering.{MatchOrdering}
 use Rattle.std.specs.Cmp.{int_ranks}
 use Rattle.frac_math.specs.Fraction.{ℚ, order, whole, ratio, neg_ℚ, inverse, ◌+ℚ◌, ◌*ℚ◌, ◌-ℚ◌, ◌≤ℚ◌, ◌<ℚ◌, is_at_most, min_ℚ, max_ℚ}
+use Rattle.frac_math.specs.Standing.{Stands}
 use Rattle.frac_math.proofs.Ring.{Expr, var, num, ◌⊕◌, ◌⊖◌, ◌⊗◌, minus, ring, ring_from, normal, value, done, by}
 use Rattle.frac_math.proofs.Integers.{ints_ring}
-use Rattle.frac_math.proofs.FractionRing.{Stands, denominator_positive, itself, over_stands, add_stands, mul_stands, neg_stands, fractions, product_positive, cross_same}
+use Rattle.frac_math.proofs.FractionRing.{denominator_positive, itself, over_stands, add_stands, mul_stands, neg_stands, fractions, product_positive, cross_same, mul-inverse}
 
 -- ---- order
 pub mono_ℤ : (a b : ℤ) (c : ℕ) → a ≤ℤ b → (a *ℤ pos c) ≤ℤ (b *ℤ pos c)
@@ -176,6 +177,13 @@ above_zero x h =
 
 pub not_zero : (x : ℚ) → whole (pos 0) <ℚ x → x.numerator ≡ pos 0 → ⊥
 not_zero x h e = absurd (omega (arith, ints, h.below, e))
+
+-- a fraction above 0 has an inverse
+pub inverse_of_positive : (x : ℚ) → whole (pos 0) <ℚ x → x *ℚ inverse x ≡ whole (pos 1)
+inverse_of_positive x h = mul-inverse x (not_zero x h)
+
+pub stands_above_zero : (x : ℚ) (n d : ℕ) → Stands x (pos n) d → 0 < n → whole (pos 0) <ℚ x
+stands_above_zero x n d s h = lt_by_cross (whole (pos 0)) x (pos 0) (pos n) 1 d (itself (whole (pos 0))) s (omega (arith, ints))
 
 pub mul_above_zero : (x y : ℚ) → whole (pos 0) <ℚ x → whole (pos 0) <ℚ y → whole (pos 0) <ℚ (x *ℚ y)
 mul_above_zero x y p q =

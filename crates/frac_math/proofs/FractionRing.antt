@@ -15,6 +15,7 @@ use Rattle.frac_math.specs.Gcd.{gcd, is_lowest}
 use Rattle.frac_math.specs.LowestTerms.{gcd-is}
 use Rattle.frac_math.proofs.Euclid.{lowest_positive, lowest_one, same_pair, divides_other}
 use Rattle.frac_math.specs.Fraction.{ℚ, whole, over, ◌+ℚ◌, ◌*ℚ◌, neg_ℚ, ratio, inverse, ◌/ℚ◌, equal_ℚ}
+use Rattle.frac_math.specs.Standing.{Stands}
 use Rattle.frac_math.specs.Equality.{equal_equivalence}
 use Rattle.frac_math.proofs.Ring.{Ring, var, num, ◌⊕◌, ◌⊗◌, minus, ring, ring_from, done, by}
 use Rattle.frac_math.proofs.Integers.{ints_ring}
@@ -27,11 +28,7 @@ pub and_right : (a b : Bool) → (a && b) ≡ true → b ≡ true
 and_right true b h = h
 and_right false b h = absurd (cc)
 
--- ---- x stands for n/d
-pub record Stands (x : ℚ) (n : ℤ) (d : ℕ) : Type 0 where
-  pub positive : 0 < d
-  pub cross : x.numerator *ℤ pos d ≡ n *ℤ pos x.denominator
-
+-- ---- the numbers that a fraction stands for
 pub denominator_positive : (x : ℚ) → 0 < x.denominator
 denominator_positive x = lowest_positive x.numerator x.denominator x.lowest
 
@@ -120,9 +117,6 @@ neg_stands x n d s =
     change (neg_ℚ x) _ _ _ _ (over_stands (neg_ℤ x.numerator) x.denominator (denominator_positive x)) s.positive
     (ring_from ints_ring (x.numerator ∷ n ∷ pos x.denominator ∷ pos d ∷ []) (minus (var 0) ⊗ var 3) (minus (var 1) ⊗ var 2) (by (num (negsuc 0)) (var 0 ⊗ var 3) (var 1 ⊗ var 2) done) (s.cross, tt) refl)
 
-whole_stands : (n : ℤ) → Stands (whole n) n 1
-whole_stands n = itself (whole n)
-
 -- ---- the fractions are a ring
 pub add_assoc : (x y z : ℚ) → (x +ℚ y) +ℚ z ≡ x +ℚ (y +ℚ z)
 add_assoc x y z =
@@ -196,6 +190,10 @@ fractions = record {
   of-add = whole-add;
   of-mul = whole-mul;
 }
+
+-- a sum of three in the other order
+pub add_reversed : (x y z : ℚ) → x +ℚ y +ℚ z ≡ z +ℚ y +ℚ x
+add_reversed x y z = ring fractions (x ∷ y ∷ z ∷ []) (var 0 ⊕ var 1 ⊕ var 2) (var 2 ⊕ var 1 ⊕ var 0) refl
 
 -- ---- division
 mul-ratio : (n : ℤ) (d : ℕ) (x : ℚ) → Stands x n d → (n ≡ pos 0 → ⊥) → x *ℚ ratio (pos d) n ≡ whole (pos 1)

@@ -3,10 +3,12 @@ pub mod Integers
 pub mod Euclid
 pub mod FractionRing
 pub mod FractionOrder
+pub mod Naturals
 pub mod Floor
 pub mod Casts
 pub mod Reduction
 pub mod CheckedCalls
+pub mod Ratios
 pub mod OrderByProducts
 pub mod Quotient
 pub mod DitherLaws

@@ -3,7 +3,7 @@ use Rattle.std.specs.Prelude.{ℕ, suc, ◌+◌, ◌*◌, ◌/◌, ◌^◌, ◌�
 use Rattle.std.specs.Option.{option_and_then}
 use Rattle.frac_math.specs.Gcd.{gcd}
 use Rattle.frac_math.specs.Fraction.{ℚ}
-use Rattle.frac_math.proofs.FractionRing.{Stands}
+use Rattle.frac_math.specs.Standing.{Stands}
 use Rattle.op_list.specs.declared.op.Op.{Op}
 use Rattle.op_list.specs.declared.op.Op.TheVariants.{Dither, Linear, Scale, Min, Max}
 use Rattle.op_list.specs.declared.values.Values.{Values}

@@ -1,10 +1,10 @@
 -- Where all numbers fit, the checked steps have an answer.
-use Rattle.std.proofs.Common.{◌≡◌, ℕ, ◌<◌, List, [], ◌∷◌, refl, ap, arith}
-use Rattle.std.specs.Prelude.{Option, Some, None}
-use Rattle.std.specs.Option.{SomeIff, option_map}
+use Rattle.std.proofs.Common.{◌≡◌, ℕ, ◌<◌, List, [], ◌∷◌, refl, arith}
+use Rattle.std.specs.Prelude.{Option, Some}
+use Rattle.std.specs.Option.{option_map}
 use Rattle.frac_math.specs.Fraction.{ℚ, ◌+ℚ◌, ◌*ℚ◌}
 use Rattle.frac_math.specs.Checked.{checked_sum, checked_product, SumFits, ProductFits}
-use Rattle.frac_math.proofs.CheckedCalls.{checked_sum_exact, checked_product_exact}
+use Rattle.frac_math.proofs.CheckedCalls.{checked_sum_some, checked_product_some}
 use Rattle.frac_math.specs.Dither.{dither_at}
 use Rattle.op_list.specs.declared.types.Stage.{Stage}
 use Rattle.op_list.specs.declared.place.Place.{Place}
@@ -19,22 +19,12 @@ use Rattle.op_list.specs.Checked.{checked_apply, checked_row, checked_term}
 use Rattle.op_list.specs.Run.{run_from, checked_run_from}
 use Rattle.op_list.specs.Fits.{RowFits, StepFits, StepsFit}
 
-some_where : {A : Type 0} (r : Option A) (P : Type 0) (x : A) → SomeIff r P x → P → r ≡ Some x
-some_where None P x h p = absurd (h p)
-some_where (Some y) P x h p = ap Some h.1
-
 pub all_four-some : {A : Type 0} (f : ℕ → Option A) (g : ℕ → A) → ((i : ℕ) → i < 4 → f i ≡ Some (g i)) → all_four f ≡ Some (four g)
 all_four-some f g h = rw (h 0 (omega arith), h 1 (omega arith), h 2 (omega arith), h 3 (omega arith)) refl
 
-pub checked_sum-some : (x y : ℚ) → SumFits x y → checked_sum x y ≡ Some (x +ℚ y)
-checked_sum-some x y h = some_where (checked_sum x y) (SumFits x y) (x +ℚ y) (checked_sum_exact x y) h
-
-pub checked_product-some : (x y : ℚ) → ProductFits x y → checked_product x y ≡ Some (x *ℚ y)
-checked_product-some x y h = some_where (checked_product x y) (ProductFits x y) (x *ℚ y) (checked_product_exact x y) h
-
 checked_term-some : (row : List ℚ) (values : Values) (i : ℕ) (total : ℚ) → ProductFits (fraction_in row i) (fraction values i) → SumFits total (product row values i)
     → checked_term row values i total ≡ Some (total +ℚ product row values i)
-checked_term-some row values i total p q = rw (checked_product-some _ _ p) (checked_sum-some total (product row values i) q)
+checked_term-some row values i total p q = rw (checked_product_some _ _ p) (checked_sum_some total (product row values i) q)
 
 pub checked_row-some : (row : List ℚ) (values : Values) → RowFits row values → checked_row row values ≡ Some (row_value row values)
 unfolding checked_row
@@ -54,11 +44,11 @@ pub checked_apply-some : (frame : List ℕ) (place : Place) (stage : Stage) (op 
     → StepFits place op values → checked_apply frame place stage op values ≡ Some (apply frame place stage op values)
 unfolding checked_apply apply
 checked_apply-some frame place stage (Dither k) values h =
-    fractions-some (λ i. checked_sum (fraction values i) (dither_at k place.x place.y)) (λ i. fraction values i +ℚ dither_at k place.x place.y) (λ i within. checked_sum-some _ _ (h i within))
+    fractions-some (λ i. checked_sum (fraction values i) (dither_at k place.x place.y)) (λ i. fraction values i +ℚ dither_at k place.x place.y) (λ i within. checked_sum_some _ _ (h i within))
 checked_apply-some frame place stage (Linear rows) values h =
     fractions-some (λ i. checked_row (row_of rows i) values) (λ i. row_value (row_of rows i) values) (λ i within. checked_row-some (row_of rows i) values (h i within))
 checked_apply-some frame place stage (Scale by) values h =
-    fractions-some (λ i. checked_product (fraction values i) by) (λ i. fraction values i *ℚ by) (λ i within. checked_product-some _ _ (h i within))
+    fractions-some (λ i. checked_product (fraction values i) by) (λ i. fraction values i *ℚ by) (λ i within. checked_product_some _ _ (h i within))
 checked_apply-some frame place stage op values h = refl
 
 -- ---- a list

@@ -63,12 +63,6 @@ length-components desc = length-map-range_with_len (component_of desc) 0 desc.co
 pub some_component-false : (desc : Desc) (has : Comp → Bool) (j : ℕ) → some_component desc has ≡ false → j < desc.count → has (component_of desc j) ≡ false
 some_component-false desc has j none listed = list_any-map_false (component_of desc) has desc.count j none listed
 
--- what component j is, some component is
-pub some_component-true : (desc : Desc) (has : Comp → Bool) (j : ℕ) → j < desc.count → has (component_of desc j) ≡ true → some_component desc has ≡ true
-some_component-true desc has j listed holds =
-    let at = get_or-components desc j no_component listed in
-    list_any_at has (components desc) j no_component (omega (arith, length-components desc)) (ap has at ∙ holds)
-
 -- what some component is, one of them is
 list_any-place : {X : Type 0} (p : X → Bool) (xs : List X) (d : X) → list_any p xs ≡ true → (i : ℕ) × (i < length xs) × (p (get_or xs i d) ≡ true)
 list_any-place p [] d some = absurd cc

@@ -1,12 +1,11 @@
 -- What components read after one was written.
-use Rattle.std.proofs.Common.{◌≡◌, ◌≢◌, ℕ, zero, suc, ◌+◌, ◌*◌, ◌<◌, ◌≤◌, pos, ◌-ℤ◌, false, List, [], ◌∷◌, length, get_or, All, ◌⊎◌, inl, inr, refl, sym, ◌∙◌, ap, arith}
+use Rattle.std.proofs.Common.{◌≡◌, ◌≢◌, ℕ, ◌+◌, ◌*◌, ◌<◌, pos, ◌-ℤ◌, false, List, All, ◌⊎◌, inl, inr, sym, ◌∙◌, ap, arith}
 use Rattle.std.specs.Int.{bit_at}
 use Rattle.std.specs.Ordering.{int_eq}
 use Rattle.std.proofs.Math.Nat.{mod-lt}
-use Rattle.std.proofs.lemmas.Bool.{cases_lt, false_from_ne_true}
+use Rattle.std.proofs.lemmas.Bool.{false_from_ne_true}
 use Rattle.std.proofs.lemmas.Bool.Decides.{Decides-int_eq}
 use Rattle.std.proofs.lemmas.Int.{ints}
-use Rattle.std.proofs.lemmas.List.Elements.{All-get_or}
 use Rattle.std.proofs.lemmas.Nat.{pow_pos, same_from_place}
 use Rattle.std.proofs.lemmas.Nat.Bits.{same_from_bits_below}
 use Rattle.pix_desc.specs.declared.desc.Desc.{Desc}
@@ -14,28 +13,16 @@ use Rattle.pix_desc.specs.Component.{component_of, component, count_of, first_by
 use Rattle.pix_desc.specs.Frame.{plane_step}
 use Rattle.pix_desc.specs.Layouts.{IsValid}
 use Rattle.pix_desc.proofs.ComponentLists.{list_any-below_at}
+use Rattle.pix_desc.proofs.FramePlaces.{byte_below}
 use Rattle.pix_desc.proofs.Places.{component-bit, bit_place-is, bits_within, place_in, place_in-lt, width_of}
 use Rattle.pix_desc.proofs.Valid.{laid_out}
-
--- a list of bytes reads below 256 at each index
-past_end : (row : List ℕ) (k : ℕ) → length row ≤ k → get_or row k 0 ≡ 0
-past_end [] k past = refl
-past_end (b ∷ row) zero past = absurd (omega arith)
-past_end (b ∷ row) (suc k) past = past_end row k (omega arith)
-
-pub byte_at : (row : List ℕ) (k : ℕ) → All (λ byte. byte < 256) row → get_or row k 0 < 256
-byte_at row k bytes =
-    elim (cases_lt k (length row)) as (λ _. get_or row k 0 < 256) [
-      | inl within ↦ All-get_or (λ byte. byte < 256) row k 0 within bytes
-      | inr past ↦ omega (arith, past_end row k past)
-    ]
 
 -- bit i of component j is the bit of the row at its place
 pub bit_at-component : (desc : Desc) (j x i : ℕ) (row : List ℕ) → IsValid desc → j < desc.count → All (λ byte. byte < 256) row → i < (component_of desc j).depth
     → bit_at (component desc j row x) i ≡ bit_of row (8 * (x * (component_of desc j).step) + count_of (bit_place desc (component_of desc j) i))
 bit_at-component desc j x i row v listed bytes below =
     let out = laid_out desc v in
-    component-bit desc (component_of desc j) x i row (out.first j listed) (out.bits j listed) (λ k. byte_at row k bytes) below
+    component-bit desc (component_of desc j) x i row (out.first j listed) (out.bits j listed) (λ k. byte_below row k bytes) below
 
 -- a component's bits lie in its pixel
 pub count_of-bit_place : (desc : Desc) (j i : ℕ) → IsValid desc → j < desc.count → i < (component_of desc j).depth

@@ -1,9 +1,8 @@
 -- The planes that components lie in.
-use Rattle.std.proofs.Common.{◌≡◌, ℕ, suc, ◌+◌, ◌/◌, ◌<◌, ◌≤◌, Bool, true, false, not, ◌||◌, ◌&&◌, nat_eq, cond, List, [], ◌∷◌, length, get_or, take, drop, refl, sym, ◌∙◌, ap, add-one, arith}
+use Rattle.std.proofs.Common.{◌≡◌, ℕ, suc, ◌+◌, ◌/◌, ◌<◌, Bool, true, false, not, ◌||◌, ◌&&◌, nat_eq, cond, List, [], ◌∷◌, length, get_or, take, drop, refl, sym, ◌∙◌, ap, add-one, arith}
 use Rattle.std.specs.Prelude.{filter, sum_by}
 use Rattle.std.specs.List.{list_any, list_all}
 use Rattle.std.proofs.Math.Seq.{drop-cons}
-use Rattle.std.proofs.Math.ListN.{drop_of_length-le}
 use Rattle.std.proofs.lemmas.Bool.{eq-eqb}
 use Rattle.std.proofs.lemmas.Bool.Decides.{nat_tests}
 use Rattle.std.proofs.lemmas.List.Folds.{list_any_more}
@@ -45,9 +44,6 @@ filter-all (c ∷ cs) = ap (λ ds. c ∷ ds) (filter-all cs)
 
 pub elements_left-none : (cs : List Comp) → elements_left cs 0 ≡ element_count cs
 elements_left-none cs = ap (sum_by elements_of) (filter-all (one_a_plane cs))
-
-pub elements_left-all : (cs : List Comp) (i : ℕ) → length cs ≤ i → elements_left cs i ≡ 0
-elements_left-all cs i past = ap (λ ds. sum_by elements_of (filter (is_new (take i cs)) (one_a_plane ds))) (drop_of_length-le cs past)
 
 -- the first of a list counts where it passes the test
 sum_by-filter_cons : (p : Comp → Bool) (c : Comp) (cs : List Comp) → sum_by elements_of (filter p (c ∷ cs)) ≡ cond (p c) (elements_of c) 0 + sum_by elements_of (filter p cs)

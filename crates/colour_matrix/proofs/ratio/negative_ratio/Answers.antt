@@ -1,7 +1,8 @@
 use Rattle.std.proofs.Common.{pos, neg_ℤ, ◌-ℤ◌, sym, ◌∙◌, rules}
 use Rattle.std.specs.Int.{w128, cast_signed, cast_unsigned}
 use Rattle.std.specs.Int.RustNames.{FitsSigned}
-use Rattle.colour_matrix.proofs.RatioLaws.{ratio_known, negative_is}
+use Rattle.frac_math.proofs.Casts.{negative_is}
+use Rattle.frac_math.proofs.Ratios.{ratio_known}
 use Rattle.colour_matrix.proofs.ratio.negative_ratio.Goals as goal
 
 pub unwrap-requires : goal.unwrap-requires

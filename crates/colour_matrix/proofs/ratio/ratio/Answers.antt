@@ -1,7 +1,7 @@
 use Rattle.std.proofs.Common.{pos, sym, ◌∙◌, rules}
 use Rattle.std.specs.Int.{w128}
 use Rattle.std.specs.Int.RustNames.{FitsSigned}
-use Rattle.colour_matrix.proofs.RatioLaws.{ratio_known}
+use Rattle.frac_math.proofs.Ratios.{ratio_known}
 use Rattle.colour_matrix.proofs.ratio.ratio.Goals as goal
 
 pub unwrap-requires : goal.unwrap-requires
