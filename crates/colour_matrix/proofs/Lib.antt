@@ -1,4 +1,3 @@
-pub mod Quotients
 pub mod Parts
 pub mod Rows
 pub mod ColourLaws

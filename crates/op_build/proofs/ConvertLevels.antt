@@ -11,7 +11,7 @@ use Rattle.colour_matrix.specs.Levels.{levels, scaled_to, from_code}
 use Rattle.colour_matrix.specs.declared.class.Class.TheVariants.{Direct, Chroma}
 use Rattle.colour_matrix.specs.declared.class.Range.{Range}
 use Rattle.colour_matrix.specs.declared.class.Range.TheVariants.{Full, Limited}
-use Rattle.colour_matrix.proofs.Quotients.{inverse_of}
+use Rattle.frac_math.proofs.Naturals.{inverse_of}
 use Rattle.pix_meaning.specs.declared.pair.Side.{Side}
 use Rattle.pix_meaning.specs.Pairs.{is_rgb, has_channel, component_at, class_of, depth_of, levels_of}
 use Rattle.pix_meaning.specs.Values.{source_value}

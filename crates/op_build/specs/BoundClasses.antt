@@ -1,6 +1,6 @@
 -- The test of the bounds over the classes of sides: what the recipe takes of a side, for the formats of the table and the five matrices.
-use Rattle.std.specs.Prelude.{◌≡◌, ◌⊎◌, ℕ, zero, suc, ◌-◌, ◌^◌, Bool, true, false, not, ◌&&◌, if◌then◌else◌, List, [], ◌∷◌, ◌++◌, Option, Some, None, slice_index}
-use Rattle.frac_math.specs.Fraction.{nat, neg_ℚ, ◌/ℚ◌, equal_ℚ}
+use Rattle.std.specs.Prelude.{◌≡◌, ◌⊎◌, ℕ, zero, suc, ◌-◌, ◌^◌, Bool, true, false, not, if◌then◌else◌, List, [], ◌∷◌, ◌++◌, Option, Some, None, slice_index}
+use Rattle.frac_math.specs.Fraction.{nat, neg_ℚ, ◌/ℚ◌}
 use Rattle.colour_matrix.specs.declared.class.Class.{Class}
 use Rattle.colour_matrix.specs.declared.class.Class.TheVariants.{Direct, Luma, Chroma}
 use Rattle.colour_matrix.specs.declared.class.Range.{Range}
@@ -15,7 +15,7 @@ use Rattle.pix_meaning.specs.Pairs.{is_rgb}
 use Rattle.op_list.specs.declared.op.Op.{Op}
 use Rattle.op_list.specs.declared.op.Op.TheVariants.{Dither, Linear, Scale}
 use Rattle.op_list.specs.Values.{four}
-use Rattle.op_build.specs.Recipe.{only_if, channel_depth, diagonal, over_three}
+use Rattle.op_build.specs.Recipe.{only_if, channel_depth, are_plain, diagonal, over_three}
 use Rattle.op_build.specs.Bounds.{Bound, bound, bounds_after, bounds_from}
 
 -- whether the channels are red, green and blue, the depths of the four channels, the range and the matrix
@@ -43,11 +43,6 @@ class_at rgb (suc (suc (suc c))) = Direct
 
 abbrev pub class_levels : SideClass → ℕ → Levels
 class_levels k c = levels (class_at k.rgb c) (slice_index k.depths c) k.range
-
-abbrev pub are_plain : (ℕ → Levels) → Bool
-are_plain l =
-    equal_ℚ (l 1).scale (l 0).scale && equal_ℚ (l 2).scale (l 0).scale && equal_ℚ (l 3).scale (l 0).scale
-    && equal_ℚ (l 0).base (nat 0) && equal_ℚ (l 1).base (nat 0) && equal_ℚ (l 2).base (nat 0) && equal_ℚ (l 3).base (nat 0)
 
 abbrev pub from_class : SideClass → Op
 from_class k =

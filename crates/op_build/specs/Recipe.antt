@@ -1,4 +1,4 @@
--- The list of operations of a conversion. Steps that change nothing stand in it too; to drop them is the optimiser's work.
+-- The list of operations of a conversion. Steps that change nothing stand in it too.
 use Rattle.std.specs.Prelude.{ℕ, ◌-◌, ◌^◌, Bool, not, ◌&&◌, if◌then◌else◌, nat_lt, nat_eq, List, [], ◌∷◌, ◌++◌, length, slice_index_or, Option, Some, None}
 use Rattle.frac_math.specs.Fraction.{ℚ, nat, neg_ℚ, ◌/ℚ◌, equal_ℚ}
 use Rattle.pix_desc.specs.declared.desc.Desc.{Desc}
@@ -59,11 +59,13 @@ abbrev pub channel_levels : Side → ℕ → Levels
 channel_levels side c = levels (class_of side.desc c) (channel_depth side.desc c) side.range
 
 -- all four scales are equal, and all bases are 0
-unfoldable pub is_plain : Side → Bool
-is_plain side =
-    let l = channel_levels side in
+abbrev pub are_plain : (ℕ → Levels) → Bool
+are_plain l =
     equal_ℚ (l 1).scale (l 0).scale && equal_ℚ (l 2).scale (l 0).scale && equal_ℚ (l 3).scale (l 0).scale
     && equal_ℚ (l 0).base (nat 0) && equal_ℚ (l 1).base (nat 0) && equal_ℚ (l 2).base (nat 0) && equal_ℚ (l 3).base (nat 0)
+
+unfoldable pub is_plain : Side → Bool
+is_plain side = are_plain (channel_levels side)
 
 -- a row of Linear: its coefficient j, and its constant
 abbrev pub linear_row : (ℕ → ℚ) → ℚ → List ℚ

@@ -1,8 +1,7 @@
 // The channels of a format, and the components that give them.
 ghost use Rattle.std.specs.Prelude.{◌≡◌};
-ghost use Rattle.pix_desc.specs.Layouts.{IsValid};
 ghost use Rattle.pix_meaning.specs.Pairs.{is_rgb, has_channel, component_count, component_at, channel_of, depth_of};
-ghost use Rattle.op_build.specs.Recipe.{channel_depth, missing_code};
+ghost use Rattle.op_build.specs.Recipe.{channel_depth};
 
 use crate::word::component_of;
 use pix_desc::Desc;

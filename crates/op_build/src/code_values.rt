@@ -5,8 +5,7 @@ ghost use Rattle.frac_math.specs.Checked.{QuotientFits};
 ghost use Rattle.colour_matrix.specs.declared.class.Levels.{Levels};
 ghost use Rattle.pix_desc.specs.Layouts.{IsValid};
 ghost use Rattle.op_list.specs.Values.{four, fraction_in};
-ghost use Rattle.op_build.specs.Recipe.{channel_levels, diagonal, from_codes, to_codes};
-ghost use Rattle.op_build.specs.BoundClasses.{are_plain};
+ghost use Rattle.op_build.specs.Recipe.{channel_levels, are_plain, diagonal, from_codes, to_codes};
 ghost use Rattle.op_build.specs.LevelSizes.{AreSmall};
 
 use crate::colour::channel_levels;

@@ -1,7 +1,7 @@
 // How the pixels of a format are taken as up to four numbers: the elements of its planes, or the fields of one word.
-ghost use Rattle.std.specs.Prelude.{◌≡◌, ◌≤◌, take, length};
-ghost use Rattle.pix_desc.specs.Frame.{step_in, plane_step};
-ghost use Rattle.pix_desc.specs.Layouts.{IsValid, is_elements, word_shift};
+ghost use Rattle.std.specs.Prelude.{◌≡◌};
+ghost use Rattle.pix_desc.specs.Frame.{step_in};
+ghost use Rattle.pix_desc.specs.Layouts.{IsValid, is_elements};
 ghost use Rattle.op_build.specs.Shape.{element_bytes, element_type, element_counts, is_swapped};
 
 use op_list::PixType;

@@ -1,4 +1,5 @@
--- Between two packed RGB formats a conversion copies: each component of the target is the source's of the same colour.
+-- Between two RGB formats of one plane whose components are whole bytes a conversion copies: each component of the target is the source's of the same
+-- colour.
 use Rattle.std.specs.Prelude.{◌≡◌, true, ℕ, ◌&&◌, Bool, not, if◌then◌else◌, nat_lt, nat_eq, List}
 use Rattle.std.specs.List.{list_all}
 use Rattle.pix_desc.specs.declared.desc.Comp.{Comp}
@@ -13,7 +14,7 @@ use Rattle.pix_meaning.specs.Target.{target_frame}
 abbrev pub is_whole_byte : Comp → Bool
 is_whole_byte c = nat_eq c.plane 0 && nat_eq c.shift 0 && nat_eq c.depth 8
 
--- an RGB format of one plane whose components are whole bytes
+-- a little-endian RGB format of one plane, without a palette, whose components are whole bytes
 abbrev pub is_packed_rgb : Desc → Bool
 is_packed_rgb desc = desc.rgb && (not desc.be && (not desc.palette && list_all is_whole_byte (components desc)))
 

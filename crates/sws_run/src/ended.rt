@@ -30,12 +30,19 @@ pub enum UsageFault {
 /// What is wrong with the bytes read.
 #[derive(Clone, Copy, Debug, PartialEq, Eq)]
 pub enum StreamFault {
+    /// The stream does not begin as a YUV4MPEG2 header. Not answered yet.
     NoMagic,
+    /// A line of the stream is too long. Not answered yet.
     LineTooLong,
+    /// A tag of the header is not known. Not answered yet.
     BadTag,
+    /// The header lacks a width or a height. Not answered yet.
     NoSize,
+    /// The width or the height is out of range. Not answered yet.
     BadSize,
+    /// The colour space of the header is not supported. Not answered yet.
     BadColour,
+    /// A frame does not begin with its line. Not answered yet.
     NoFrameLine,
     /// The input ends inside a frame. The only one that raw input can give.
     Truncated,

@@ -15,8 +15,8 @@ pub fn every_pair_is_evaluated()
         → IsEvaluated (record { from = side_at from from_matrix from_range; to = side_at to to_matrix to_range; dither = dither }) }
 {}
 
-/// Between two packed RGB formats the target frame has the source's components, each at its place, and opaque alpha where the
-/// source has none.
+/// Between two RGB formats of one plane whose components are whole bytes the target frame has the source's components, each at
+/// its place, and opaque alpha where the source has none.
 pub fn copies_packed()
     ensures { (pair : Pair) (width height : ℕ) (frame : List ℕ) → CopiesPacked pair width height frame }
 {}

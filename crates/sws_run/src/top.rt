@@ -38,8 +38,8 @@ fn conversion_of(alloc: Global, task: &Task) -> Result<Conversion, OutOfMemory>
     Conversion::new(alloc, pair_of(task), task.width, task.height)
 }
 
-/// Runs the converter on the words after the program's name: reads raw frames from the input to its end, converts each
-/// and writes it to the output. Nothing is written to `notes` yet.
+/// Runs the converter on the words after the program's name: reads raw frames from the input to its end, at most 1,000,000,
+/// converts each and writes it to the output. Nothing is written to `notes` yet.
 ///
 /// The six clauses are records in `specs/Run.antt`.
 pub fn run_sws<R: Threads + Sync, S: Source, K: Sink, L: Sink, G: Gate>(
