@@ -1,10 +1,8 @@
 -- Which bits are kept when a component is written, and what components read then.
-use Rattle.std.proofs.Common.{◌≡◌, ◌≢◌, ℕ, ◌+◌, ◌-◌, ◌*◌, ◌/◌, ◌%◌, ◌<◌, ◌≤◌, pos, ◌-ℤ◌, false, List, get_or, All, ◌⊎◌, inl, inr, subst, sym, ◌∙◌, ap, arith}
+use Rattle.std.proofs.Common.{◌≡◌, ◌≢◌, ℕ, ◌+◌, ◌-◌, ◌*◌, ◌/◌, ◌%◌, ◌<◌, ◌≤◌, pos, ◌-ℤ◌, true, false, List, get_or, All, ◌⊎◌, inl, inr, subst, sym, ◌∙◌, ap, arith}
 use Rattle.std.specs.Int.{bit_at}
-use Rattle.std.specs.Ordering.{int_eq}
 use Rattle.std.proofs.Math.Nat.{mod-lt}
 use Rattle.std.proofs.lemmas.Bool.{cases_lt, both_ways, false_from_ne_true}
-use Rattle.std.proofs.lemmas.Bool.Decides.{Decides-int_eq}
 use Rattle.std.proofs.lemmas.Int.{ints}
 use Rattle.std.proofs.lemmas.Nat.{pow_pos, same_from_place}
 use Rattle.std.proofs.lemmas.Nat.Bits.{same_from_bits_below}
@@ -14,20 +12,17 @@ use Rattle.pix_desc.specs.Component.{component_of, component, count_of, first_by
 use Rattle.pix_desc.specs.Frame.{plane_step}
 use Rattle.pix_desc.specs.Layouts.{IsValid}
 use Rattle.pix_desc.proofs.BitsOfBytes.{byte_of, IsBitAt, bit_here}
-use Rattle.pix_desc.proofs.ComponentLists.{list_any-below_at, list_any-below_false}
 use Rattle.pix_desc.proofs.FramePlaces.{byte_below, place_of, bit_place_is, place_inside, number_bit, component_bit}
+use Rattle.pix_desc.proofs.FrameReads.{read_place, place_reads}
 use Rattle.pix_desc.proofs.Valid.{laid_out}
 
--- a bit of a component's value is a bit that the component reads
+-- a component reads the bits of its value
 is_read : (desc : Desc) (c : Comp) (x k i : ℕ) → first_byte desc c ≡ pos (count_of (first_byte desc c)) → i < c.depth
-    → IsBitAt (is_narrow c) desc.be (start_of desc c x) (c.shift + i) (k / 8) (k % 8) → reads_bit desc c (pos k -ℤ pos (8 * (x * c.step))) ≢ false
-is_read desc c x k i first inside at unread =
-    let start = pos k -ℤ pos (8 * (x * c.step)) in
+    → IsBitAt (is_narrow c) desc.be (start_of desc c x) (c.shift + i) (k / 8) (k % 8) → reads_bit desc c (pos k -ℤ pos (8 * (x * c.step))) ≡ true
+is_read desc c x k i first inside at =
     let byte : k / 8 ≡ x * c.step + count_of (first_byte desc c) + byte_of (is_narrow c) desc.be (c.shift + i) = at.byte in
     let sum : k ≡ 8 * (x * c.step) + place_of desc c (c.shift + i) = omega (arith, byte, at.bit) in
-    let read : bit_place desc c i ≡ start = omega (arith, ints, bit_place_is desc c i first, sum) in
-    let missed = list_any-below_false (λ n. int_eq (bit_place desc c n) start) c.depth i unread inside in
-    both_ways (int_eq (bit_place desc c i) start) missed ((Decides-int_eq (bit_place desc c i) start).1 read)
+    place_reads desc c (pos k -ℤ pos (8 * (x * c.step))) i inside (omega (arith, ints, bit_place_is desc c i first, sum))
 
 -- a write that keeps the bytes round a component's number, and the number's other bits, keeps each bit that the component does not read
 pub kept_bit : (desc : Desc) (c : Comp) (x : ℕ) (old new : List ℕ) → first_byte desc c ≡ pos (count_of (first_byte desc c)) → c.shift + c.depth ≤ 16
@@ -53,7 +48,10 @@ kept_bit desc c x old new first bits bytes_old bytes_new before behind below abo
               | inl low ↦ sym bit_new ∙ below m low ∙ bit_old
               | inr from ↦ elim (cases_lt m (c.shift + c.depth)) as (λ _. goal) [
                 | inr high ↦ sym bit_new ∙ above m high ∙ bit_old
-                | inl inside ↦ absurd (is_read desc c x k (m - c.shift) first (omega arith) (let bit : c.shift + (m - c.shift) ≡ m = omega arith in subst (λ n. IsBitAt (is_narrow c) desc.be at n (k / 8) (k % 8)) (sym bit) here.1) unread)
+                | inl inside ↦
+                    let bit : m ≡ c.shift + (m - c.shift) = omega arith in
+                    let stands = subst (λ n. IsBitAt (is_narrow c) desc.be at n (k / 8) (k % 8)) bit here.1 in
+                    absurd (both_ways (reads_bit desc c (pos k -ℤ pos (8 * (x * c.step)))) unread (is_read desc c x k (m - c.shift) first (omega arith) stands))
               ]
             ]
       ]
@@ -88,9 +86,9 @@ unread desc i j x y b v listed_i listed_j plane apart below =
     let k = 8 * (y * d.step) + count_of (bit_place desc d b) in
     let start = pos k -ℤ pos (8 * (x * c.step)) in
     false_from_ne_true (reads_row_bit desc i x k) (λ read.
-    let found = list_any-below_at (λ a. int_eq (bit_place desc c a) start) c.depth read in
+    let found = read_place desc c start read in
     let a = found.0 in
-    let same : bit_place desc c a ≡ start = (Decides-int_eq (bit_place desc c a) start).0 found.2 in
+    let same = found.2 in
     let place_c = count_of-bit_place desc i a v listed_i found.1 in
     let place_d = count_of-bit_place desc j b v listed_j below in
     let step : c.step ≡ d.step = sym (out.step i listed_i) ∙ ap (plane_step desc) plane ∙ out.step j listed_j in
