@@ -4,7 +4,7 @@ use Rattle.std.specs.Int.{bit_at}
 use Rattle.std.specs.List.{range_with_len}
 use Rattle.std.proofs.lemmas.Bool.{cases_lt, cases_eq}
 use Rattle.std.proofs.lemmas.List.Sums.{sum_by-cons}
-use Rattle.std.proofs.lemmas.Nat.{shr-shr, shr_split, or_disjoint, or_lt, pow_pos}
+use Rattle.std.proofs.lemmas.Nat.{shr-shr, shr_split, shl_below, or_disjoint, or_lt, pow_pos}
 use Rattle.std.proofs.lemmas.Nat.Bits.{bit_at-zero, bit_at_cat_low, bit_at_cat_high, bit_at_above, bit_at_and, bit_at_or, same_from_bits}
 
 -- bit i of the field of `depth` bits above the lowest `shift`
@@ -34,16 +34,22 @@ bit_at_shifted v shift i =
     let place : shift + i - shift ≡ i = omega arith in
     ap (λ n. bit_at n (shift + i)) whole ∙ bit_at_cat_high v shift 0 (shift + i) (pow_pos shift) (omega arith) ∙ ap (bit_at v) place
 
+pub bit_at_shifted_below : (v shift m : ℕ) → m < shift → bit_at (v * 2 ^ shift) m ≡ 0
+bit_at_shifted_below v shift m low =
+    let whole : v * 2 ^ shift ≡ v * 2 ^ shift + 0 = omega arith in
+    ap (λ n. bit_at n m) whole ∙ bit_at_cat_low v shift 0 m low ∙ bit_at-zero m
+
+pub bit_at_shifted_above : (v shift depth m : ℕ) → v < 2 ^ depth → shift + depth ≤ m → bit_at (v * 2 ^ shift) m ≡ 0
+bit_at_shifted_above v shift depth m small past = bit_at_above (v * 2 ^ shift) (depth + shift) m (shl_below v depth shift small) (omega arith)
+
 pub bit_at_shifted_cases : (v shift depth m : ℕ) → v < 2 ^ depth → (bit_at (v * 2 ^ shift) m ≡ 0) ⊎ ((i : ℕ) × (i < depth) × (shift + i ≡ m))
 bit_at_shifted_cases v shift depth m small =
     ⊎_elim
-    (λ low. inl ((let whole : v * 2 ^ shift ≡ v * 2 ^ shift + 0 = omega arith in ap (λ n. bit_at n m) whole) ∙ bit_at_cat_low v shift 0 m low ∙ bit_at-zero m))
-    (λ high.
-    let place : shift + (m - shift) ≡ m = omega arith in
-    ⊎_elim
-    (λ inside. inr (m - shift, inside, place))
-    (λ past. inl (ap (bit_at (v * 2 ^ shift)) (sym place) ∙ bit_at_shifted v shift (m - shift) ∙ bit_at_above v depth (m - shift) small past))
-    (cases_lt (m - shift) depth))
+    (λ low. inl (bit_at_shifted_below v shift m low))
+    (λ high. ⊎_elim
+    (λ inside. inr (m - shift, omega arith, omega arith))
+    (λ past. inl (bit_at_shifted_above v shift depth m small past))
+    (cases_lt m (shift + depth)))
     (cases_lt m shift)
 
 -- ---- numbers that share no bit

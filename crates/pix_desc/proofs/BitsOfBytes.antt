@@ -1,7 +1,7 @@
 -- The bits of a number of one or two bytes in either byte order: in which byte each stands, when the number is read and when it is taken apart.
-use Rattle.std.proofs.Common.{◌≡◌, ℕ, ◌+◌, ◌-◌, ◌*◌, ◌/◌, ◌%◌, ◌^◌, ◌<◌, ◌≤◌, ◌≢◌, ◌⊎◌, inl, inr, ⊎_elim, Bool, true, false, not, ◌&&◌, if◌then◌else◌, nat_eq, ap, ◌∙◌, arith}
+use Rattle.std.proofs.Common.{◌≡◌, ℕ, ◌+◌, ◌-◌, ◌*◌, ◌/◌, ◌%◌, ◌^◌, ◌<◌, ◌≤◌, ◌⊎◌, inl, inr, ⊎_elim, Bool, true, false, not, ◌&&◌, if◌then◌else◌, nat_eq, ap, ◌∙◌, arith}
 use Rattle.std.specs.Int.{bit_at}
-use Rattle.std.proofs.lemmas.Bool.{cases_lt, cases_eq}
+use Rattle.std.proofs.lemmas.Bool.{cases_lt}
 use Rattle.std.proofs.lemmas.Bool.Decides.{nat_tests}
 use Rattle.std.proofs.lemmas.Nat.Bits.{bit_at-zero}
 use Rattle.pix_desc.proofs.Bits.{bit_at_low_byte, bit_at_high_byte, bit_at_mod_byte, bit_at_div_byte}
@@ -27,20 +27,44 @@ number_of narrow be first second = if narrow then first else (if be then 256 * f
 same_bit : (bytes : ℕ → ℕ) (t u m k : ℕ) → t ≡ u → m ≡ k → bit_at (bytes t) m ≡ bit_at (bytes u) k
 same_bit bytes t u m k e h = ap (λ s. bit_at (bytes s) m) e ∙ ap (bit_at (bytes u)) h
 
+-- bit m of the number, whose bytes begin with byte `first`, stands in byte k as its bit b
+pub record IsBitAt (narrow be : Bool) (first m k b : ℕ) : Type 0 where
+  pub inside : m < bits_of narrow
+  pub byte : k ≡ first + byte_of narrow be m
+  pub bit : b ≡ m % 8
+
+-- each bit of the number's bytes is one of the number
+pub bit_here : (narrow be : Bool) (first k b : ℕ) → b < 8 → first ≤ k → k < first + (if narrow then 1 else 2) → (m : ℕ) × IsBitAt narrow be first m k b
+bit_here true true first k b below from to = (b, record { inside = omega arith; byte = omega arith; bit = omega arith })
+bit_here true false first k b below from to = (b, record { inside = omega arith; byte = omega arith; bit = omega arith })
+bit_here false true first k b below from to = (8 * (first + 1 - k) + b, record { inside = omega arith; byte = omega arith; bit = omega arith })
+bit_here false false first k b below from to = (8 * (k - first) + b, record { inside = omega arith; byte = omega arith; bit = omega arith })
+
 -- a bit of the number is a bit of the byte that holds it
-pub bit_at_number : (narrow be : Bool) (bytes : ℕ → ℕ) (m : ℕ) → ((t : ℕ) → bytes t < 256) → m < bits_of narrow
-    → bit_at (number_of narrow be (bytes 0) (bytes 1)) m ≡ bit_at (bytes (byte_of narrow be m)) (m % 8)
-bit_at_number true true bytes m small inside = same_bit bytes 0 (m / 8) m (m % 8) (omega arith) (omega arith)
-bit_at_number true false bytes m small inside = same_bit bytes 0 (m / 8) m (m % 8) (omega arith) (omega arith)
-bit_at_number false true bytes m small inside =
-    let turned : 256 * bytes 0 + bytes 1 ≡ bytes 1 + 256 * bytes 0 = omega arith in
+pub bit_at_number : (narrow be : Bool) (bytes : ℕ → ℕ) (first m k b : ℕ) → ((t : ℕ) → bytes t < 256) → IsBitAt narrow be first m k b
+    → bit_at (number_of narrow be (bytes first) (bytes (first + 1))) m ≡ bit_at (bytes k) b
+bit_at_number true true bytes first m k b small at =
+    let inside : m < 8 = at.inside in
+    let byte : k ≡ first + m / 8 = at.byte in
+    same_bit bytes first k m b (omega arith) (omega (arith, at.bit))
+bit_at_number true false bytes first m k b small at =
+    let inside : m < 8 = at.inside in
+    let byte : k ≡ first + m / 8 = at.byte in
+    same_bit bytes first k m b (omega arith) (omega (arith, at.bit))
+bit_at_number false true bytes first m k b small at =
+    let inside : m < 16 = at.inside in
+    let byte : k ≡ first + (1 - m / 8) = at.byte in
+    let turned : 256 * bytes first + bytes (first + 1) ≡ bytes (first + 1) + 256 * bytes first = omega arith in
     ap (λ n. bit_at n m) turned ∙ ⊎_elim
-    (λ low. bit_at_low_byte (bytes 1) (bytes 0) m low ∙ same_bit bytes 1 (1 - m / 8) m (m % 8) (omega arith) (omega arith))
-    (λ high. bit_at_high_byte (bytes 1) (bytes 0) m (small 1) high ∙ same_bit bytes 0 (1 - m / 8) (m - 8) (m % 8) (omega arith) (omega arith))
+    (λ low. bit_at_low_byte (bytes (first + 1)) (bytes first) m low ∙ same_bit bytes (first + 1) k m b (omega arith) (omega (arith, at.bit)))
+    (λ high. bit_at_high_byte (bytes (first + 1)) (bytes first) m (small (first + 1)) high ∙ same_bit bytes first k (m - 8) b (omega arith) (omega (arith, at.bit)))
     (cases_lt m 8)
-bit_at_number false false bytes m small inside = ⊎_elim
-    (λ low. bit_at_low_byte (bytes 0) (bytes 1) m low ∙ same_bit bytes 0 (m / 8) m (m % 8) (omega arith) (omega arith))
-    (λ high. bit_at_high_byte (bytes 0) (bytes 1) m (small 0) high ∙ same_bit bytes 1 (m / 8) (m - 8) (m % 8) (omega arith) (omega arith))
+bit_at_number false false bytes first m k b small at =
+    let inside : m < 16 = at.inside in
+    let byte : k ≡ first + m / 8 = at.byte in
+    ⊎_elim
+    (λ low. bit_at_low_byte (bytes first) (bytes (first + 1)) m low ∙ same_bit bytes first k m b (omega arith) (omega (arith, at.bit)))
+    (λ high. bit_at_high_byte (bytes first) (bytes (first + 1)) m (small first) high ∙ same_bit bytes (first + 1) k (m - 8) b (omega arith) (omega (arith, at.bit)))
     (cases_lt m 8)
 
 -- what a number puts into byte k, where its bytes begin with byte `first`
@@ -70,18 +94,13 @@ part_second : (be : Bool) (first number k : ℕ) → k ≡ first + 1 → part_of
 part_second true first number k e = grind (arith, nat_tests)
 part_second false first number k e = grind (arith, nat_tests)
 
-part_elsewhere : (narrow be : Bool) (first number k : ℕ) → k ≢ first → k ≢ first + 1 → part_of narrow be first number k ≡ 0
-part_elsewhere true be first number k p q = grind (arith, nat_tests)
-part_elsewhere false be first number k p q = grind (arith, nat_tests)
+part_before : (narrow be : Bool) (first number k : ℕ) → k < first → part_of narrow be first number k ≡ 0
+part_before true be first number k before = grind (arith, nat_tests)
+part_before false be first number k before = grind (arith, nat_tests)
 
-part_narrow : (be : Bool) (first number k : ℕ) → k ≢ first → part_of true be first number k ≡ 0
-part_narrow be first number k p = grind (arith, nat_tests)
-
--- bit m of the number stands in byte k as its bit b
-pub record IsBitAt (narrow be : Bool) (first m k b : ℕ) : Type 0 where
-  pub inside : m < bits_of narrow
-  pub byte : k ≡ first + byte_of narrow be m
-  pub bit : b ≡ m % 8
+part_behind : (narrow be : Bool) (first number k : ℕ) → first + (if narrow then 1 else 2) ≤ k → part_of narrow be first number k ≡ 0
+part_behind true be first number k behind = grind (arith, nat_tests)
+part_behind false be first number k behind = grind (arith, nat_tests)
 
 -- a bit of the number is in its byte as in the number
 pub bit_at_part : (narrow be : Bool) (first number m k b : ℕ) → IsBitAt narrow be first m k b → bit_at (part_of narrow be first number k) b ≡ bit_at number m
@@ -107,20 +126,12 @@ bit_at_part false false first number m k b at =
 -- a bit of a byte is 0, or is a bit of the number
 pub bit_at_part_cases : (narrow be : Bool) (first number k b : ℕ) → b < 8
     → (bit_at (part_of narrow be first number k) b ≡ 0) ⊎ ((m : ℕ) × IsBitAt narrow be first m k b)
-bit_at_part_cases true be first number k b below = ⊎_elim
-    (λ (here : k ≡ first). inr (b, record { inside = below; byte = elim be as (λ v. k ≡ first + byte_of true v b) [ true ↦ omega arith | false ↦ omega arith ]; bit = omega arith }))
-    (λ (there : k ≢ first). inl (ap (λ n. bit_at n b) (part_narrow be first number k there) ∙ bit_at-zero b))
-    (cases_eq k first)
-bit_at_part_cases false be first number k b below = ⊎_elim
-    (λ (here : k ≡ first). inr (elim be as (λ v. (m : ℕ) × IsBitAt false v first m k b) [
-      | true ↦ (8 + b, record { inside = omega arith; byte = omega arith; bit = omega arith })
-      | false ↦ (b, record { inside = omega arith; byte = omega arith; bit = omega arith })
-    ]))
-    (λ (there : k ≢ first). ⊎_elim
-    (λ (next : k ≡ first + 1). inr (elim be as (λ v. (m : ℕ) × IsBitAt false v first m k b) [
-      | true ↦ (b, record { inside = omega arith; byte = omega arith; bit = omega arith })
-      | false ↦ (8 + b, record { inside = omega arith; byte = omega arith; bit = omega arith })
-    ]))
-    (λ (past : k ≢ first + 1). inl (ap (λ n. bit_at n b) (part_elsewhere false be first number k there past) ∙ bit_at-zero b))
-    (cases_eq k (first + 1)))
-    (cases_eq k first)
+bit_at_part_cases narrow be first number k b below =
+    let unset = λ (none : part_of narrow be first number k ≡ 0). ap (λ n. bit_at n b) none ∙ bit_at-zero b in
+    ⊎_elim
+    (λ before. inl (unset (part_before narrow be first number k before)))
+    (λ from. ⊎_elim
+    (λ to. inr (bit_here narrow be first k b below from to))
+    (λ behind. inl (unset (part_behind narrow be first number k behind)))
+    (cases_lt k (first + (if narrow then 1 else 2))))
+    (cases_lt k first)

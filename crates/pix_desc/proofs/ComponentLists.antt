@@ -1,10 +1,10 @@
 -- What tests over a descriptor's components say of each of them.
-use Rattle.std.proofs.Common.{◌≡◌, ℕ, zero, suc, ◌<◌, ◌≤◌, Bool, true, false, nat_eq, List, [], ◌∷◌, length, get_or, take, length-take, get_or-take, map, inl, inr, refl, sym, ◌∙◌, ap, arith}
+use Rattle.std.proofs.Common.{◌≡◌, ℕ, zero, suc, ◌+◌, ◌<◌, ◌≤◌, Bool, true, false, nat_eq, List, [], ◌∷◌, length, get_or, take, length-take, get_or-take, map, refl, sym, ◌∙◌, ap, arith}
 use Rattle.std.specs.List.{range_with_len, list_any, list_all}
-use Rattle.std.proofs.lemmas.Bool.{both_ways, false_from_ne_true, true_from_ne_false, or_parts, or_cases, cond-true, cond_both, eq-eqb}
+use Rattle.std.proofs.lemmas.Bool.{both_ways, false_from_ne_true, true_from_ne_false, or_parts, cond-true, cond_both, eq-eqb}
 use Rattle.std.proofs.lemmas.Bool.Decides.{nat_tests}
 use Rattle.std.proofs.lemmas.List.FromFn.{length-map-range_with_len, get_or-map-range_with_len, length-range_with_len, get_or-range_with_len, fill_by_all}
-use Rattle.std.proofs.lemmas.List.Folds.{list_any_at, list_all_at}
+use Rattle.std.proofs.lemmas.List.Folds.{Any-from_list_any, list_any_at, list_all_at}
 use Rattle.pix_desc.specs.declared.desc.Comp.{Comp}
 use Rattle.pix_desc.specs.declared.desc.Desc.{Desc}
 use Rattle.pix_desc.specs.Component.{components, component_of, no_component}
@@ -63,27 +63,20 @@ length-components desc = length-map-range_with_len (component_of desc) 0 desc.co
 pub some_component-false : (desc : Desc) (has : Comp → Bool) (j : ℕ) → some_component desc has ≡ false → j < desc.count → has (component_of desc j) ≡ false
 some_component-false desc has j none listed = list_any-map_false (component_of desc) has desc.count j none listed
 
--- what some component is, one of them is
-list_any-place : {X : Type 0} (p : X → Bool) (xs : List X) (d : X) → list_any p xs ≡ true → (i : ℕ) × (i < length xs) × (p (get_or xs i d) ≡ true)
-list_any-place p [] d some = absurd cc
-list_any-place p (x ∷ xs) d some =
-    elim (or_cases (p x) (list_any p xs) some) as (λ _. (i : ℕ) × (i < length (x ∷ xs)) × (p (get_or (x ∷ xs) i d) ≡ true)) [
-      | inl here ↦ (0, omega arith, here)
-      | inr later ↦ let rest = list_any-place p xs d later in (suc rest.0, omega (arith, rest.1), rest.2)
-    ]
-
+-- what some number below n is, one of them is
 pub list_any-below_at : (p : ℕ → Bool) (n : ℕ) → list_any p (range_with_len 0 n) ≡ true → (k : ℕ) × (k < n) × (p k ≡ true)
 list_any-below_at p n some =
-    let place = list_any-place p (range_with_len 0 n) 0 some in
-    let within : place.0 < n = omega (arith, place.1, length-range_with_len 0 n) in
-    let at : get_or (range_with_len 0 n) place.0 0 ≡ place.0 = omega (arith, get_or-range_with_len 0 n place.0 0 within) in
-    (place.0, within, ap p (sym at) ∙ place.2)
+    let any = Any-from_list_any p (range_with_len 0 n) some in
+    let within : any.0 < n = omega (arith, any.2, length-range_with_len 0 n) in
+    let at : any.1 ≡ 0 + any.0 = sym any.3 ∙ get_or-range_with_len 0 n any.0 any.1 within in
+    (any.1, omega (arith, at, within), any.4)
 
+-- and what some component is
 pub some_component-at : (desc : Desc) (has : Comp → Bool) → some_component desc has ≡ true → (i : ℕ) × (i < desc.count) × (has (component_of desc i) ≡ true)
 some_component-at desc has some =
-    let place = list_any-place has (components desc) no_component some in
-    let listed : place.0 < desc.count = omega (arith, place.1, length-components desc) in
-    (place.0, listed, ap has (sym (get_or-components desc place.0 no_component listed)) ∙ place.2)
+    let any = Any-from_list_any has (components desc) some in
+    let listed : any.0 < desc.count = omega (arith, any.2, length-components desc) in
+    (any.0, listed, ap has (sym (get_or-components desc any.0 any.1 listed) ∙ any.3) ∙ any.4)
 
 -- two components are not as no pair is
 pub some_pair-false : (desc : Desc) (have : Comp → Comp → Bool) (i j : ℕ) → some_pair desc have ≡ false → i < j → j < desc.count → have (component_of desc i) (component_of desc j) ≡ false

@@ -7,17 +7,14 @@ use Rattle.pix_desc.specs.declared.desc.Desc.{Desc}
 use Rattle.pix_desc.specs.Component.{component_of, bit_of}
 use Rattle.pix_desc.specs.Frame.{plane_step, plane_start, row_start, frame_length, frame_component, frame_of, pixel_byte, reads_pixel_bit, IsFrameOf, FitDepths}
 use Rattle.pix_desc.specs.Layouts.{IsLaidOut}
-use Rattle.pix_desc.proofs.FramePlaces.{place_of, bit_place_is, frame_component_below}
+use Rattle.pix_desc.proofs.FramePlaces.{place_of, bit_place_is, bit_of_is, frame_component_below}
 use Rattle.pix_desc.proofs.FrameReads.{IsReadBy, read_inside, frame_bit_by, plane_below}
 use Rattle.pix_desc.proofs.FramePixel.{pixel_byte_below, pixel_bit_at, spare_bit_at}
 use Rattle.pix_desc.proofs.FramePlanes.{IsByteOf, find_byte, byte_of_planes, length-planes_of}
 
 -- bit b of byte o of a pixel is a bit of that byte of the frame
 pub bit_of_byte : (frame : List ℕ) (start o b : ℕ) → b < 8 → bit_of frame (8 * start + (8 * o + b)) ≡ bit_at (get_or frame (start + o) 0) b
-bit_of_byte frame start o b below =
-    let byte : (8 * start + (8 * o + b)) / 8 ≡ start + o = omega arith in
-    let bit : (8 * start + (8 * o + b)) % 8 ≡ b = omega arith in
-    ap (λ t. bit_at (get_or frame t 0) ((8 * start + (8 * o + b)) % 8)) byte ∙ ap (bit_at (get_or frame (start + o) 0)) bit
+bit_of_byte frame start o b below = bit_of_is frame (8 * start + (8 * o + b)) (start + o) b (omega arith) (omega arith)
 
 pub frame_length_is : (desc : Desc) (width height : ℕ) → desc.palette ≡ false → frame_length desc width height ≡ plane_start desc width height 4
 unfolding frame_length

@@ -1,20 +1,17 @@
 -- Which bits of a pixel a descriptor's components read.
-use Rattle.std.proofs.Common.{◌≡◌, ℕ, ◌+◌, ◌*◌, ◌<◌, ◌≤◌, ◌≢◌, ⊎_elim, true, ◌&&◌, pos, List, [], ◌∷◌, suc, All, length, get_or, nat_eq, eqb-true, eq-eqb, sym, refl, ap, subst, ◌∙◌, arith}
-use Rattle.std.specs.List.{range_with_len}
+use Rattle.std.proofs.Common.{◌≡◌, ℕ, ◌+◌, ◌*◌, ◌<◌, ◌≤◌, ◌≢◌, ⊎_elim, true, ◌&&◌, ℤ, pos, List, [], ◌∷◌, suc, All, length, get_or, nat_eq, eqb-true, eq-eqb, sym, refl, ap, subst, ◌∙◌, arith}
 use Rattle.std.specs.Int.{bit_at}
 use Rattle.std.specs.Ordering.{int_eq}
-use Rattle.std.proofs.lemmas.Bool.{cases_lt, cond-false, ne_eqb, and_parts, and_from}
+use Rattle.std.proofs.lemmas.Bool.{cases_lt, cond-false, ne_eqb, and_parts, and_from, both_ways, true_from_ne_false}
 use Rattle.std.proofs.lemmas.Bool.Decides.{Decides-int_eq}
-use Rattle.std.proofs.lemmas.List.FromFn.{length-range_with_len, get_or-range_with_len}
-use Rattle.std.proofs.lemmas.List.Folds.{Any-from_list_any, list_any_at}
+use Rattle.std.proofs.lemmas.List.Folds.{list_any_at}
 use Rattle.pix_desc.specs.declared.desc.Comp.{Comp}
 use Rattle.pix_desc.specs.declared.desc.Desc.{Desc}
-use Rattle.pix_desc.specs.Component.{components, component_of, is_narrow, bytes_read, first_byte, count_of, bit_place, reads_bit, bit_of}
+use Rattle.pix_desc.specs.Component.{components, component_of, bit_place, reads_bit, bit_of}
 use Rattle.pix_desc.specs.Frame.{plane_step, step_in, row_start, frame_component, reads_pixel_bit}
 use Rattle.pix_desc.specs.Layouts.{IsLaidOut}
-use Rattle.pix_desc.proofs.ComponentLists.{get_or-components, length-components}
-use Rattle.pix_desc.proofs.BitsOfBytes.{bits_of, byte_of, byte_of_below}
-use Rattle.pix_desc.proofs.FramePlaces.{place_of, same_place, fits_bits, frame_bit}
+use Rattle.pix_desc.proofs.ComponentLists.{get_or-components, length-components, list_any-below_at, list_any-below_false, some_component-at}
+use Rattle.pix_desc.proofs.FramePlaces.{same_place, place_inside, frame_bit}
 
 -- bit i of component j is bit k of a pixel in the plane
 pub record IsReadBy (desc : Desc) (plane k j i : ℕ) : Type 0 where
@@ -24,28 +21,24 @@ pub record IsReadBy (desc : Desc) (plane k j i : ℕ) : Type 0 where
   pub at : bit_place desc (component_of desc j) i ≡ pos k
 
 -- what a component reads, and where
-read_place : (desc : Desc) (c : Comp) (k : ℕ) → reads_bit desc c (pos k) ≡ true → (i : ℕ) × (i < c.depth) × (bit_place desc c i ≡ pos k)
+pub read_place : (desc : Desc) (c : Comp) (k : ℤ) → reads_bit desc c k ≡ true → (i : ℕ) × (i < c.depth) × (bit_place desc c i ≡ k)
 read_place desc c k reads =
-    let any = Any-from_list_any (λ i. int_eq (bit_place desc c i) (pos k)) (range_with_len 0 c.depth) reads in
-    let inside : any.0 < c.depth = omega (arith, any.2, length-range_with_len 0 c.depth) in
-    let index : any.1 ≡ 0 + any.0 = sym any.3 ∙ get_or-range_with_len 0 c.depth any.0 any.1 inside in
-    (any.1, omega (arith, index), (Decides-int_eq (bit_place desc c any.1) (pos k)).0 any.4)
+    let at = list_any-below_at (λ i. int_eq (bit_place desc c i) k) c.depth reads in
+    (at.0, at.1, (Decides-int_eq (bit_place desc c at.0) k).0 at.2)
 
-place_reads : (desc : Desc) (c : Comp) (k i : ℕ) → i < c.depth → bit_place desc c i ≡ pos k → reads_bit desc c (pos k) ≡ true
+pub place_reads : (desc : Desc) (c : Comp) (k : ℤ) (i : ℕ) → i < c.depth → bit_place desc c i ≡ k → reads_bit desc c k ≡ true
 place_reads desc c k i inside at =
-    let index : get_or (range_with_len 0 c.depth) i 0 ≡ i = get_or-range_with_len 0 c.depth i 0 inside ∙ (let e : 0 + i ≡ i = omega arith in e) in
-    list_any_at (λ t. int_eq (bit_place desc c t) (pos k)) (range_with_len 0 c.depth) i 0 (omega (arith, length-range_with_len 0 c.depth))
-    ((Decides-int_eq (bit_place desc c (get_or (range_with_len 0 c.depth) i 0)) (pos k)).1 (ap (bit_place desc c) index ∙ at))
+    true_from_ne_false (reads_bit desc c k) (λ none.
+    both_ways (int_eq (bit_place desc c i) k) (list_any-below_false (λ t. int_eq (bit_place desc c t) k) c.depth i none inside) ((Decides-int_eq (bit_place desc c i) k).1 at))
 
 -- a bit that is read is a bit of some component
 pub read_by : (desc : Desc) (plane k : ℕ) → reads_pixel_bit desc plane k ≡ true → (j : ℕ) × (i : ℕ) × IsReadBy desc plane k j i
 read_by desc plane k reads =
-    let any = Any-from_list_any (λ c. nat_eq c.plane plane && reads_bit desc c (pos k)) (components desc) reads in
-    let listed : any.0 < desc.count = omega (arith, any.2, length-components desc) in
-    let is : any.1 ≡ component_of desc any.0 = sym any.3 ∙ get_or-components desc any.0 any.1 listed in
-    let both = and_parts (nat_eq any.1.plane plane) (reads_bit desc any.1 (pos k)) any.4 in
-    let place = read_place desc (component_of desc any.0) k (subst (λ c. reads_bit desc c (pos k) ≡ true) is both.1) in
-    (any.0, place.0, record { listed = listed; there = ap (λ c. c.plane) (sym is) ∙ eqb-true any.1.plane plane both.0; inside = place.1; at = place.2 })
+    let at = some_component-at desc (λ c. nat_eq c.plane plane && reads_bit desc c (pos k)) reads in
+    let c = component_of desc at.0 in
+    let both = and_parts (nat_eq c.plane plane) (reads_bit desc c (pos k)) at.2 in
+    let place = read_place desc c (pos k) both.1 in
+    (at.0, place.0, record { listed = at.1; there = eqb-true c.plane plane both.0; inside = place.1; at = place.2 })
 
 -- a bit of a component is read
 pub reads_from : (desc : Desc) (plane k j i : ℕ) → IsReadBy desc plane k j i → reads_pixel_bit desc plane k ≡ true
@@ -53,7 +46,7 @@ reads_from desc plane k j i by =
     let is : get_or (components desc) j (component_of desc j) ≡ component_of desc j = get_or-components desc j (component_of desc j) by.listed in
     list_any_at (λ c. nat_eq c.plane plane && reads_bit desc c (pos k)) (components desc) j (component_of desc j) (omega (arith, by.listed, length-components desc))
     (subst (λ c. (nat_eq c.plane plane && reads_bit desc c (pos k)) ≡ true) (sym is)
-    (and_from (nat_eq (component_of desc j).plane plane) (reads_bit desc (component_of desc j) (pos k)) (eq-eqb (component_of desc j).plane plane by.there) (place_reads desc (component_of desc j) k i by.inside by.at)))
+    (and_from (nat_eq (component_of desc j).plane plane) (reads_bit desc (component_of desc j) (pos k)) (eq-eqb (component_of desc j).plane plane by.there) (place_reads desc (component_of desc j) (pos k) i by.inside by.at)))
 
 -- the step of the plane is that of the component
 step_by : (desc : Desc) (plane k j i : ℕ) → IsLaidOut desc → IsReadBy desc plane k j i → (component_of desc j).step ≡ plane_step desc plane
@@ -63,12 +56,9 @@ step_by desc plane k j i laid by = sym (laid.step j by.listed) ∙ ap (plane_ste
 pub read_inside : (desc : Desc) (plane k j i : ℕ) → IsLaidOut desc → IsReadBy desc plane k j i → k < 8 * plane_step desc plane
 read_inside desc plane k j i laid by =
     let c = component_of desc j in
-    let place : place_of desc c (c.shift + i) ≡ k = same_place desc c i k (laid.first j by.listed) by.at in
-    let within : c.shift + i < bits_of (is_narrow c) = omega (arith, fits_bits (c.shift + c.depth) (laid.bits j by.listed), by.inside) in
-    let byte : byte_of (is_narrow c) desc.be (c.shift + i) < bytes_read c = byte_of_below (is_narrow c) desc.be (c.shift + i) within in
-    let room : count_of (first_byte desc c) + bytes_read c ≤ c.step = laid.inside j by.listed in
-    let step = step_by desc plane k j i laid by in
-    omega arith
+    let place = same_place desc c i k (laid.first j by.listed) by.at in
+    let inside = place_inside desc c i (laid.inside j by.listed) (laid.bits j by.listed) by.inside in
+    omega (arith, place, inside, step_by desc plane k j i laid by)
 
 -- a bit of a component of a raw frame, where the component reads bit k of a pixel
 pub frame_bit_by : (desc : Desc) (width height : ℕ) (frame : List ℕ) (plane x y k j i : ℕ) → IsLaidOut desc → All (λ byte. byte < 256) frame → IsReadBy desc plane k j i

@@ -3,7 +3,6 @@ pub mod ReplacedBits
 pub mod ComponentLists
 pub mod Kept
 pub mod Pairs
-pub mod Places
 pub mod Planes
 pub mod Valid
 pub mod BitsOfBytes

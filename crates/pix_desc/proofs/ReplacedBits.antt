@@ -4,15 +4,8 @@ use Rattle.std.specs.Int.{bit_at, w16}
 use Rattle.std.proofs.Math.Nat.{mod-lt, pow-le-pow_right}
 use Rattle.std.proofs.lemmas.Bool.{cases_lt}
 use Rattle.std.proofs.lemmas.Nat.{pow_pos, pow-add, one_shl, shl_whole, shl_below, and_le_l, or_lt}
-use Rattle.std.proofs.lemmas.Nat.Bits.{bit_at_and, bit_at_or, bit_at_not, bit_at-zero, bit_at-lt, bit_at_above, bit_at_cat_low, bit_at_cat_high, bit_at_mask_inside, bit_at_mask_below, bit_at_mask_above, same_from_bits_below}
-use Rattle.pix_desc.proofs.Bits.{bit_at_field}
-
--- the bits of a number, shifted up
-bit_at-shl_below : (v s i : ℕ) → i < s → bit_at (v * 2 ^ s) i ≡ 0
-bit_at-shl_below v s i below = ap (λ m. bit_at m i) (let e : v * 2 ^ s ≡ v * 2 ^ s + 0 = omega arith in e) ∙ bit_at_cat_low v s 0 i below ∙ bit_at-zero i
-
-bit_at-shl : (v s i : ℕ) → s ≤ i → bit_at (v * 2 ^ s) i ≡ bit_at v (i - s)
-bit_at-shl v s i from = ap (λ m. bit_at m i) (let e : v * 2 ^ s ≡ v * 2 ^ s + 0 = omega arith in e) ∙ bit_at_cat_high v s 0 i (pow_pos s) from
+use Rattle.std.proofs.lemmas.Nat.Bits.{bit_at_and, bit_at_or, bit_at_not, bit_at-lt, bit_at_above, bit_at_mask_inside, bit_at_mask_below, bit_at_mask_above, same_from_bits_below}
+use Rattle.pix_desc.proofs.Bits.{bit_at_field, bit_at_shifted, bit_at_shifted_below, bit_at_shifted_above}
 
 -- d ones from bit s on, as they are computed in 16 bits
 less_one : (a b : ℕ) → 0 < a → (a - 1) * b + b ≡ a * b
@@ -60,7 +53,7 @@ replaced_small n s d v w fits number value =
 pub replaced_below : (n s d v i : ℕ) → s + d ≤ 16 → i < s → bit_at (replaced n s d v) i ≡ bit_at n i
 replaced_below n s d v i fits below =
     let none = bit_at_mask_below s (s + d) i below in
-    let clear = bit_at-shl_below v s i below in
+    let clear = bit_at_shifted_below v s i below in
     replaced_bit n s d v i fits (omega arith) ∙ (let e : max (min (bit_at n i) (1 - bit_at (2 ^ (s + d) - 2 ^ s) i)) (bit_at (v * 2 ^ s) i) ≡ bit_at n i = omega (arith, none, clear, bit_at-lt n i) in e)
 
 pub replaced_above : (n s d v i : ℕ) → s + d ≤ 16 → n < 2 ^ 16 → v < 2 ^ d → s + d ≤ i → bit_at (replaced n s d v) i ≡ bit_at n i
@@ -68,7 +61,7 @@ replaced_above n s d v i fits number value above =
     elim (cases_lt i 16) as (λ _. bit_at (replaced n s d v) i ≡ bit_at n i) [
       | inl below ↦
           let none = bit_at_mask_above s (s + d) i above in
-          let clear = bit_at-shl v s i (omega arith) ∙ bit_at_above v d (i - s) value (omega arith) in
+          let clear = bit_at_shifted_above v s d i value above in
           replaced_bit n s d v i fits below ∙ (let e : max (min (bit_at n i) (1 - bit_at (2 ^ (s + d) - 2 ^ s) i)) (bit_at (v * 2 ^ s) i) ≡ bit_at n i = omega (arith, none, clear, bit_at-lt n i) in e)
       | inr past ↦ bit_at_above (replaced n s d v) 16 i (replaced_small n s d v 16 fits number value) past ∙ sym (bit_at_above n 16 i number past)
     ]
@@ -78,6 +71,6 @@ pub replaced_value : (n s d v : ℕ) → s + d ≤ 16 → v < 2 ^ d → replaced
 replaced_value n s d v fits value =
     same_from_bits_below d (replaced n s d v / 2 ^ s % 2 ^ d) v (mod-lt (replaced n s d v / 2 ^ s) (pow_pos d)) value (λ i below.
     let all = bit_at_mask_inside s (s + d) (s + i) (omega arith) (omega arith) in
-    let put : bit_at (v * 2 ^ s) (s + i) ≡ bit_at v i = bit_at-shl v s (s + i) (omega arith) ∙ ap (bit_at v) (let e : (s + i) - s ≡ i = omega arith in e) in
+    let put = bit_at_shifted v s i in
     bit_at_field (replaced n s d v) s d i below ∙ replaced_bit n s d v (s + i) fits (omega arith)
     ∙ (let e : max (min (bit_at n (s + i)) (1 - bit_at (2 ^ (s + d) - 2 ^ s) (s + i))) (bit_at (v * 2 ^ s) (s + i)) ≡ bit_at v i = omega (arith, all, put, bit_at-lt n (s + i)) in e))

@@ -3,7 +3,7 @@ use Rattle.std.specs.Int.{bit_at}
 use Rattle.std.proofs.Math.Nat.{pow-le-pow_right}
 use Rattle.pix_desc.specs.Component.{component_of, start_of, number_at}
 use Rattle.pix_desc.proofs.Valid.{laid_out, inside_row}
-use Rattle.pix_desc.proofs.Places.{kept_bit}
+use Rattle.pix_desc.proofs.Kept.{kept_bit}
 use Rattle.pix_desc.proofs.component.write_comp.Goals as goal
 
 pub bounds-desc-j : goal.bounds-desc-j
