@@ -1,5 +1,7 @@
 // The laws of the recipe, each the contract of a function.
-ghost use Rattle.std.specs.Prelude.{◌≡◌, true, false, ℕ, List};
+ghost use Rattle.std.specs.Prelude.{◌≡◌, true, false, ℕ, ℤ, List};
+ghost use Rattle.std.specs.Int.{int_min, int_max};
+ghost use Rattle.frac_math.specs.Fraction.{ℚ, whole, min_ℚ, max_ℚ, floor};
 ghost use Rattle.pix_desc.specs.declared.desc.Desc.{Desc};
 ghost use Rattle.op_list.specs.declared.place.Place.{Place};
 ghost use Rattle.pix_meaning.specs.declared.pair.Pair.{Pair};
@@ -29,6 +31,11 @@ pub fn recipe_is_list()
 /// At every pixel of every source frame, the whole list gives the elements of the target rows.
 pub fn recipe_means_target()
     ensures { (pair : Pair) → MeansItsTarget pair }
+{}
+
+/// To limit a fraction by whole numbers and then take its floor is to take the floor and then limit it.
+pub fn limits_before_the_floor()
+    ensures { (x : ℚ) (least most : ℤ) → floor (min_ℚ (max_ℚ x (whole least)) (whole most)) ≡ int_min (int_max (floor x) least) most }
 {}
 
 /// Where the sides are of the classes of the table, the checked evaluation of the list has an answer, which is the exact one.

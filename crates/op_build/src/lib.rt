@@ -26,7 +26,8 @@ mod word;
 pub use fault::BuildFault;
 pub use laws::{
     checked_recipe_is_exact, decoding_gives_codes, decoding_is_whole, elements_fill_frames,
-    recipe_is_list, recipe_is_whole, recipe_means_target, recipe_reads_frames,
+    limits_before_the_floor, recipe_is_list, recipe_is_whole, recipe_means_target,
+    recipe_reads_frames,
 };
 pub use list::build;
 pub use shape::{element_counts, element_type};
