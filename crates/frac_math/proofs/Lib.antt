@@ -12,3 +12,4 @@ pub mod Ratios
 pub mod OrderByProducts
 pub mod Quotient
 pub mod DitherLaws
+pub mod Zeros

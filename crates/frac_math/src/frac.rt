@@ -102,6 +102,22 @@ impl Frac {
         ensures exact { SomeIff result (SumFits self.now other.now) (self.now +ℚ other.now) }
         ensures value { result ≡ checked_sum self.now other.now }
     {
+        // most terms of a row are 0
+        let (left, right) = (self.num, other.num);
+        if right == 0 {
+            Some(*self)
+        } else if left == 0 {
+            Some(*other)
+        } else {
+            self.reduced_sum(other)
+        }
+    }
+
+    // The sum, of its four numbers.
+    fn reduced_sum(&self, other: &Frac) -> Option<Frac>
+        ensures exact { SomeIff result (SumFits self.now other.now) (self.now +ℚ other.now) }
+        ensures value { result ≡ checked_sum self.now other.now }
+    {
         let left = self.num().checked_mul(other.den())?;
         let right = other.num().checked_mul(self.den())?;
         let sum = left.checked_add(right)?;
@@ -111,6 +127,22 @@ impl Frac {
 
     /// The exact product of a/b and c/d. None where a c or b d leaves i128.
     pub fn checked_mul(&self, other: &Frac) -> Option<Frac>
+        ensures exact { SomeIff result (ProductFits self.now other.now) (self.now *ℚ other.now) }
+        ensures value { result ≡ checked_product self.now other.now }
+    {
+        // most coefficients of a row are 0
+        let (left, right) = (self.num, other.num);
+        if right == 0 {
+            Some(*other)
+        } else if left == 0 {
+            Some(*self)
+        } else {
+            self.reduced_product(other)
+        }
+    }
+
+    // The product, of its two numbers.
+    fn reduced_product(&self, other: &Frac) -> Option<Frac>
         ensures exact { SomeIff result (ProductFits self.now other.now) (self.now *ℚ other.now) }
         ensures value { result ≡ checked_product self.now other.now }
     {

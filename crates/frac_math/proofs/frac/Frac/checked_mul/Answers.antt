@@ -1,37 +1,30 @@
-use Rattle.std.proofs.Common.{◌*◌, pos, subst, rules}
-use Rattle.std.specs.Int.{w128}
-use Rattle.std.specs.Int.RustNames.{FitsSigned}
-use Rattle.frac_math.specs.Fraction.{◌*ℚ◌}
-use Rattle.frac_math.specs.Checked.{ProductFits}
-use Rattle.frac_math.proofs.Casts.{product_known}
-use Rattle.frac_math.proofs.Reduction.{product_positive_ℤ, reduced_known}
-use Rattle.frac_math.proofs.CheckedCalls.{same_answer, checked_product_exact}
+use Rattle.std.proofs.Common.{◌≡◌, Some, rules, sym, ap, ◌∙◌}
+use Rattle.frac_math.specs.Fraction.{ℚ, ◌*ℚ◌}
+use Rattle.frac_math.specs.Checked.{ProductFits, checked_product}
+use Rattle.frac_math.proofs.CheckedCalls.{checked_product_some}
+use Rattle.frac_math.proofs.Zeros.{is_within, is_zero, times_nothing, nothing_times}
 use Rattle.frac_math.proofs.frac.Frac.checked_mul.Goals as goal
 
-pub returns-in_err-num-clause-value : goal.returns-in_err-num-clause-value
-returns-in_err-num-clause-value c = same_answer _ _ (ProductFits c.args.self.now c.args.other.now) (c.args.self.now *ℚ c.args.other.now) (search rules) (checked_product_exact c.args.self.now c.args.other.now)
+-- what is answered for x * 0 and 0 * x
+answer : (x y z : ℚ) → ProductFits x y × (z ≡ x *ℚ y) → Some z ≡ checked_product x y
+answer x y z is = ap Some is.1 ∙ sym (checked_product_some x y is.0)
 
-pub returns-in_err-den-clause-value : goal.returns-in_err-den-clause-value
-returns-in_err-den-clause-value c = same_answer _ _ (ProductFits c.args.self.now c.args.other.now) (c.args.self.now *ℚ c.args.other.now) (search rules) (checked_product_exact c.args.self.now c.args.other.now)
+pub returns-then-right-eq0-clause-exact : goal.returns-then-right-eq0-clause-exact
+returns-then-right-eq0-clause-exact c =
+    let within = is_within c.self.inside.num c.self.inside.den c.args.self.now c.self.invariant (search rules) (search rules) c.self.view_is in
+    let none = is_zero c.other.inside.num c.other.inside.den c.args.other.now c.other.invariant (search rules) c.other.view_is c.if-right-eq0.true in
+    let is = times_nothing c.args.self.now c.args.other.now within none in
+    (is.0, c.other.view_is ∙ is.1)
 
-pub reduced-requires : goal.reduced-requires
-reduced-requires c =
-    product_positive_ℤ c.args.self.now c.args.other.now c.in_ok-den.den (search rules)
-    (product_known c.den.result c.den-2.result c.in_ok-den.den _ _ (search rules) (search rules) c.den.ensures c.den-2.ensures c.in_ok-den.ensures.1)
+pub returns-then-right-eq0-clause-value : goal.returns-then-right-eq0-clause-value
+returns-then-right-eq0-clause-value c = answer _ _ _ (returns-then-right-eq0-clause-exact c)
 
-pub returns-clause-exact : goal.returns-clause-exact
-unfolding ◌*ℚ◌
-returns-clause-exact c =
-    let x = c.args.self.now in
-    let y = c.args.other.now in
-    let n = product_known c.num.result c.num-2.result c.in_ok-num.num x.numerator y.numerator (search rules) (search rules) c.num.ensures c.num-2.ensures c.in_ok-num.ensures.1 in
-    let d = product_known c.den.result c.den-2.result c.in_ok-den.den (pos x.denominator) (pos y.denominator) (search rules) (search rules) c.den.ensures c.den-2.ensures c.in_ok-den.ensures.1 in
-    let fits_n : FitsSigned w128 c.in_ok-num.num = search rules in
-    let fits_d : FitsSigned w128 c.in_ok-den.den = search rules in (
-      record { numerator = subst (λ z. FitsSigned w128 z) n fits_n; denominator = subst (λ z. FitsSigned w128 z) d fits_d },
-      reduced_known c.reduced.result c.in_ok-num.num c.in_ok-den.den _ (x.denominator * y.denominator) fits_n fits_d n d c.reduced.ensures,
-    )
+pub returns-then-left-eq0-clause-exact : goal.returns-then-left-eq0-clause-exact
+returns-then-left-eq0-clause-exact c =
+    let within = is_within c.other.inside.num c.other.inside.den c.args.other.now c.other.invariant (search rules) (search rules) c.other.view_is in
+    let none = is_zero c.self.inside.num c.self.inside.den c.args.self.now c.self.invariant (search rules) c.self.view_is c.if-left-eq0.true in
+    let is = nothing_times c.args.self.now c.args.other.now within none in
+    (is.0, c.self.view_is ∙ is.1)
 
-pub returns-clause-value : goal.returns-clause-value
-returns-clause-value c =
-    same_answer _ _ (ProductFits c.args.self.now c.args.other.now) (c.args.self.now *ℚ c.args.other.now) (returns-clause-exact c) (checked_product_exact c.args.self.now c.args.other.now)
+pub returns-then-left-eq0-clause-value : goal.returns-then-left-eq0-clause-value
+returns-then-left-eq0-clause-value c = answer _ _ _ (returns-then-left-eq0-clause-exact c)
