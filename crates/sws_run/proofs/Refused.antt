@@ -43,6 +43,7 @@ refused_answer asked left written refusal is same =
       ending = λ _. ending_refused left refusal;
       output = λ _. output_refused left written refusal;
       read = no_done refusal _ is;
+      refused = (refl, refl);
     })
 
 pub refused_read_fault : (asked : Result Task Ended) (left written : Option (List ℕ)) (faults : ℕ) (refusal : Ended) → IsRefusal refusal → GivesReadFault asked left written written faults faults refusal

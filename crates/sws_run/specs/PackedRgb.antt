@@ -1,6 +1,6 @@
 -- Between two RGB formats of one plane whose components are whole bytes a conversion copies: each component of the target is the source's of the same
 -- colour.
-use Rattle.std.specs.Prelude.{◌≡◌, true, ℕ, ◌&&◌, Bool, not, if◌then◌else◌, nat_lt, nat_eq, List}
+use Rattle.std.specs.Prelude.{◌≡◌, true, ℕ, ◌&&◌, Bool, not, if◌then◌else◌, nat_lt, nat_eq, List, [], ◌∷◌, map, filter, codes}
 use Rattle.std.specs.List.{list_all}
 use Rattle.pix_desc.specs.declared.desc.Comp.{Comp}
 use Rattle.pix_desc.specs.declared.desc.Desc.{Desc}
@@ -9,6 +9,7 @@ use Rattle.pix_desc.specs.Frame.{frame_component, frame_of}
 use Rattle.pix_meaning.specs.declared.pair.Pair.{Pair}
 use Rattle.pix_meaning.specs.Pairs.{IsValidPair}
 use Rattle.pix_meaning.specs.Target.{target_frame}
+use Rattle.desc_table.specs.Format.{formats}
 
 -- a component that is a byte of plane 0
 abbrev pub is_whole_byte : Comp → Bool
@@ -17,6 +18,14 @@ is_whole_byte c = nat_eq c.plane 0 && nat_eq c.shift 0 && nat_eq c.depth 8
 -- a little-endian RGB format of one plane, without a palette, whose components are whole bytes
 abbrev pub is_packed_rgb : Desc → Bool
 is_packed_rgb desc = desc.rgb && (not desc.be && (not desc.palette && list_all is_whole_byte (components desc)))
+
+-- the formats of the table that are
+abbrev pub packed_names : List (List ℕ)
+packed_names =
+    codes "rgb24" ∷ codes "bgr24" ∷ codes "argb" ∷ codes "rgba" ∷ codes "abgr" ∷ codes "bgra" ∷ codes "0rgb" ∷ codes "rgb0" ∷ codes "0bgr" ∷ codes "bgr0" ∷ []
+
+abbrev pub ArePackedFormats : Type 0
+ArePackedFormats = map (λ format. format.name) (filter (λ format. is_packed_rgb format.desc) formats) ≡ packed_names
 
 -- the value of the target's component j at a pixel: that of the source's component j, which is the same colour, or opaque alpha where the source has none
 abbrev pub copied : Desc → ℕ → ℕ → List ℕ → ℕ → ℕ → ℕ → ℕ

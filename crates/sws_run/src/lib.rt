@@ -10,7 +10,7 @@ mod top;
 mod words;
 
 pub use ended::{Ended, SideName, StreamFault, UsageFault};
-pub use laws::{copies_packed, every_pair_is_evaluated};
+pub use laws::{are_packed_formats, copies_packed, every_pair_is_evaluated};
 pub use top::{Gate, OpenGate, run_sws};
 
 #[cfg(test)]

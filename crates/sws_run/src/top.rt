@@ -59,7 +59,8 @@ pub fn run_sws<R: Threads + Sync, S: Source, K: Sink, L: Sink, G: Gate>(
         (K.written output.old) (K.written output.new) (K.faults output.old) (K.faults output.new) result }
     ensures memory { GivesOutOfMemory (task_of (map string_bytes words.now)) (S.left input.old)
         (K.written output.old) (K.written output.new) result }
-    ensures notes { KeepsNotes (L.written notes.old) (L.written notes.new) (L.faults notes.old) (L.faults notes.new) }
+    ensures notes { KeepsNotes (L.written notes.old) (L.written notes.new) (L.faults notes.old) (L.faults notes.new)
+        (L.made_with notes.old) (L.made_with notes.new) }
     ensures complete { IsComplete (S.faults input.old) (S.faults input.new) (K.faults output.old) (K.faults output.new)
         (S.made_with input.old) (S.made_with input.new) (K.made_with output.old) (K.made_with output.new) result }
 {

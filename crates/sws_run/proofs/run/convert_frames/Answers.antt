@@ -31,6 +31,7 @@ returns-in-Ok-End-clause-answer g c =
       ending = λ _. ending_is task (g.S.Source.left c.args.input.now) k (Done k) ended;
       output = λ _. written_all task _ _ _ k (Done k) c.loop-done.invariant.written ended;
       read = t.1;
+      refused = tt;
     }
 
 pub returns-in-Ok-Short-clause-answer : goal.returns-in-Ok-Short-clause-answer
@@ -48,6 +49,7 @@ returns-in-Ok-Short-clause-answer g c =
       ending = λ _. ending_is task (g.S.Source.left c.args.input.now) k (Stream Truncated k) ended;
       output = λ _. written_all task _ _ _ k (Stream Truncated k) c.loop-done.invariant.written ended;
       read = tt;
+      refused = tt;
     }
 
 pub returns-in-Err-clause-read_fault : goal.returns-in-Err-clause-read_fault
@@ -103,6 +105,7 @@ returns-in-Ok-End-read_whole-clause-answer g c =
       ending = λ _. ending_is task (g.S.Source.left c.args.input.now) 1000000 (Done 1000000) ended;
       output = λ _. written_all task _ _ _ 1000000 (Done 1000000) (rw k at c.loop-done.invariant.written) ended;
       read = t.1;
+      refused = tt;
     }
 
 pub returns-in-Ok-Whole-read_whole-clause-answer : goal.returns-in-Ok-Whole-read_whole-clause-answer
@@ -116,6 +119,7 @@ returns-in-Ok-Whole-read_whole-clause-answer g c =
       ending = λ _. ending_is task (g.S.Source.left c.args.input.now) 1000000 TooManyFrames ended;
       output = λ _. written_all task _ _ _ 1000000 TooManyFrames (rw k at c.loop-done.invariant.written) ended;
       read = tt;
+      refused = tt;
     }
 
 pub returns-in-Err-read_whole-clause-read_fault : goal.returns-in-Err-read_whole-clause-read_fault
