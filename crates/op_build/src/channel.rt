@@ -1,17 +1,11 @@
 // The channels of a format, and the components that give them.
 ghost use Rattle.std.specs.Prelude.{◌≡◌};
-ghost use Rattle.pix_meaning.specs.Pairs.{is_rgb, has_channel, component_count, component_at, channel_of, depth_of};
+ghost use Rattle.pix_meaning.specs.Pairs.{has_channel, component_count, component_at, channel_of, depth_of};
 ghost use Rattle.op_build.specs.Recipe.{channel_depth};
 
 use crate::word::component_of;
 use pix_desc::Desc;
-
-/// Whether the pixels are red, green and blue.
-pub fn is_rgb(desc: &Desc) -> bool
-    ensures { result ≡ is_rgb desc.now }
-{
-    desc.rgb || desc.palette
-}
+use pix_meaning::is_rgb;
 
 /// Whether the format has a channel.
 pub fn has_channel(desc: &Desc, c: u8) -> bool

@@ -28,7 +28,7 @@ pub fn recipe_is_list()
     ensures { (pair : Pair) → IsValidPair pair → IsOpList (recipe pair) }
 {}
 
-/// At every pixel of every source frame, the whole list gives the elements of the target rows.
+/// At every pixel of every source frame of bytes, the whole list of a valid pair gives the elements of the target rows, where the target has no palette.
 pub fn recipe_means_target()
     ensures { (pair : Pair) → MeansItsTarget pair }
 {}

@@ -33,7 +33,7 @@ pub fn element_bytes(desc: &Desc) -> u8
     }
 }
 
-/// The type of the elements, or of the word.
+/// The type of the elements of a format that passes the check: one of 8 or 16 bits, or that of the one word that a pixel is.
 #[tactic(auto, unfolding(crate::specs::Shape::element_type))]
 pub fn element_type(desc: &Desc) -> PixType
     requires { IsValid desc.now }
@@ -58,7 +58,7 @@ pub fn is_swapped(desc: &Desc) -> bool
     desc.be && element_type(desc) != PixType::U8
 }
 
-/// The elements of a pixel in each plane.
+/// The elements of a pixel in each plane of a format that passes the check, at most four in all; a word is one.
 #[tactic(auto, unfolding(crate::specs::Shape::element_counts))]
 pub fn element_counts(desc: &Desc) -> [u8; 4]
     requires { IsValid desc.now }

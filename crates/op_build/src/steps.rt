@@ -7,7 +7,6 @@ ghost use Rattle.op_build.specs.Shape.{field_widths};
 ghost use Rattle.op_build.specs.Recipe.{split, decode, convert, encode};
 ghost use Rattle.op_build.specs.Steps.{step_if, operations};
 
-use crate::channel::is_rgb;
 use crate::code_values::{from_codes, to_codes};
 use crate::limits::{greatest_codes, least_codes};
 use crate::numbers::field_widths;
@@ -20,7 +19,7 @@ use crate::word::component_of;
 use colour_matrix::{from_rgb, to_rgb};
 use op_list::{Op, PixType};
 use pix_desc::Desc;
-use pix_meaning::Pair;
+use pix_meaning::{Pair, is_rgb};
 
 // An operation, where there is need of it.
 fn step_if(needed: bool, op: Op) -> Option<Op>

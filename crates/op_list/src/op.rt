@@ -4,7 +4,8 @@ use frac_math::Frac;
 /// An operation on the four values of a pixel, which are numbered 0 to 3.
 #[derive(Clone, Copy, Debug, PartialEq, Eq)]
 pub enum Op {
-    /// The first operation. It takes `planes[p]` elements of each plane p for a pixel, in the order of the planes, and 0 for the values that are left.
+    /// The first operation. It takes `planes[p]` elements of each plane p for a pixel, in the order of the planes, and 0 for the values that are left:
+    /// 1 to 4 elements in all, and no plane without one before a plane with one.
     /// With `palette` the one element is an index, and the values are red, green, blue and alpha of its entry.
     Read {
         elem: PixType,
@@ -18,7 +19,7 @@ pub enum Op {
     },
     /// The bytes of every value in the other order.
     SwapBytes,
-    /// Value 0 is cut into fields of these widths in bits, the first from its most significant bits.
+    /// Value 0 is cut into fields of these widths in bits, the first from its most significant bits. The widths are at most the bits of the type in all.
     Unpack {
         widths: [u8; 4],
     },
@@ -30,15 +31,15 @@ pub enum Op {
     Clear {
         values: [Option<Frac>; 4],
     },
-    /// Every value times 2^n, modulo 2^bits.
+    /// Every value times 2^n, modulo 2^bits, for n below the bits of the type.
     LeftShift {
         n: u8,
     },
-    /// Every value divided by 2^n, floored.
+    /// Every value divided by 2^n, floored, for n below the bits of the type.
     RightShift {
         n: u8,
     },
-    /// The new value i is the old value `from[i]`.
+    /// The new value i is the old value `from[i]`, each from 0 to 3.
     Swizzle {
         from: [u8; 4],
     },
@@ -47,7 +48,7 @@ pub enum Op {
         to: PixType,
         expand: bool,
     },
-    /// The ordered dither of 2^k by 2^k places is added to every value.
+    /// The ordered dither of 2^k by 2^k places is added to every value, for k from 0 to 4.
     Dither {
         k: u8,
     },

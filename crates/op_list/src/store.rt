@@ -1,3 +1,4 @@
+// Elements that are stored in a frame.
 ghost use Rattle.std.specs.Prelude.{◌≡◌, ◌≢◌, ℕ, ◌+◌, ◌*◌, ◌%◌, ◌^◌, ◌<◌, ◌≤◌, length, sum, slice_index};
 ghost use Rattle.op_list.specs.Types.{bits, bytes};
 ghost use Rattle.op_list.specs.Pixel.{element, element_of, HasElements};
@@ -7,7 +8,8 @@ use crate::place::Place;
 use crate::types::PixType;
 
 /// Stores the elements of a pixel in a frame, as a Write of this type and these counts states them: the least significant bits of each number, and
-/// none for the numbers past the elements of a pixel.
+/// none for the numbers past the elements of a pixel. The type is a whole one, a pixel has at most four elements, the place lies in the frame, and the
+/// frame has the bytes of all its pixels' elements.
 pub fn store_elements(
     elem: PixType,
     planes: &[u8; 4],

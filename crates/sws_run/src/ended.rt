@@ -51,7 +51,9 @@ pub enum StreamFault {
 /// Which of the two format names is meant.
 #[derive(Clone, Copy, Debug, PartialEq, Eq)]
 pub enum SideName {
+    /// The source's.
     In,
+    /// The target's.
     Out,
 }
 
@@ -70,7 +72,7 @@ pub enum Ended {
     Stream { fault: StreamFault, frames: u32 },
     /// A read failed; the frames before it are written.
     ReadFault { frames: u32 },
-    /// A write failed; a part of the output is written.
+    /// A write failed; a part of the output is written. Its `frames` is not a part of what is promised yet.
     WriteFault { frames: u32 },
     /// No memory was to be had.
     OutOfMemory { frames: u32 },

@@ -4,23 +4,16 @@ ghost use Rattle.colour_matrix.specs.Matrix.{of_parts};
 ghost use Rattle.sws_run.specs.Sides.{has_chroma, default_range, side_of, pair_of};
 
 use crate::words::Task;
-use colour_matrix::{Matrix, Range};
+use colour_matrix::{Range, named};
 use desc_table::{FormatId, desc, name};
 use pix_desc::Desc;
-use pix_meaning::{Pair, Side};
-
-// The matrix bt601, by its parts.
-const BT601: Matrix = Matrix {
-    q: 1000,
-    r: 299,
-    b: 114,
-};
+use pix_meaning::{Pair, Side, is_rgb};
 
 // Whether a format has luma and chroma.
 fn has_chroma(desc: &Desc) -> bool
     ensures { result ≡ has_chroma desc.now }
 {
-    !(desc.rgb || desc.palette) && 3 <= desc.count
+    !is_rgb(desc) && 3 <= desc.count
 }
 
 /// The range that a format is taken to have: limited for a format of luma and chroma other than yuvj444p, and full for any other
@@ -41,7 +34,7 @@ fn side_of(id: FormatId) -> Side
 {
     Side {
         desc: desc(id),
-        matrix: BT601,
+        matrix: named("bt601").unwrap(),
         range: default_range(id),
     }
 }

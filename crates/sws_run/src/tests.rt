@@ -139,6 +139,14 @@ fn refuses(rt: HostRuntime) -> Result<(), Fail> {
             "raw xyz12le rgb24 2x2",
             in_name(FormatFault::OtherUnsupported),
         ),
+        ("raw rgb25 bgr24 16385x1", Ended::Usage(UsageFault::Size)),
+        (
+            "raw rgb24 yuv420p 2x2",
+            Ended::Format {
+                side: SideName::Out,
+                fault: FormatFault::Subsampled,
+            },
+        ),
         ("raw rgb24 pal8 2x2", Ended::PaletteTarget),
         ("raw rgb25 pal8 2x2", in_name(FormatFault::Unknown)),
     ] {
