@@ -14,11 +14,27 @@ pub record IsMatrix (m : Matrix) : Type 0 where
 abbrev pub of_parts : ℕ → ℕ → ℕ → Matrix
 of_parts q r b = record { q = q; r = r; b = b }
 
--- the matrix of a name (K_R and K_B of table 4 of ITU-T H.273), and none for any other name
+-- the matrices that have names (K_R and K_B of table 4 of ITU-T H.273)
+abbrev pub bt601 : Matrix
+bt601 = of_parts 1000 299 114
+
+abbrev pub bt709 : Matrix
+bt709 = of_parts 10000 2126 722
+
+abbrev pub bt2020 : Matrix
+bt2020 = of_parts 10000 2627 593
+
+abbrev pub smpte240m : Matrix
+smpte240m = of_parts 1000 212 87
+
+abbrev pub fcc : Matrix
+fcc = of_parts 100 30 11
+
+-- the matrix of a name, and none for any other name
 abbrev pub matrix_named : List ℕ → Option Matrix
 matrix_named name =
-    if bytes_eq name (codes "bt601") then Some (of_parts 1000 299 114) else (
-    if bytes_eq name (codes "bt709") then Some (of_parts 10000 2126 722) else (
-    if bytes_eq name (codes "bt2020") then Some (of_parts 10000 2627 593) else (
-    if bytes_eq name (codes "smpte240m") then Some (of_parts 1000 212 87) else (
-    if bytes_eq name (codes "fcc") then Some (of_parts 100 30 11) else None))))
+    if bytes_eq name (codes "bt601") then Some bt601 else (
+    if bytes_eq name (codes "bt709") then Some bt709 else (
+    if bytes_eq name (codes "bt2020") then Some bt2020 else (
+    if bytes_eq name (codes "smpte240m") then Some smpte240m else (
+    if bytes_eq name (codes "fcc") then Some fcc else None))))

@@ -1,7 +1,9 @@
 -- The checked conversion of a pair whose sides are of the classes is there, and is the exact one.
-use Rattle.std.proofs.Common.{◌≡◌, inl, inr, ℕ, zero, suc, ◌-◌, ◌^◌, ◌<◌, ◌≤◌, Bool, true, false, not, if◌then◌else◌, List, [], ◌∷◌, ◌++◌, refl, sym, ◌∙◌, ap, subst, arith}
+use Rattle.std.proofs.Common.{◌≡◌, inl, inr, ℕ, zero, suc, ◌-◌, ◌^◌, ◌<◌, ◌≤◌, Bool, true, false, not, List, [], ◌∷◌, ◌++◌, refl, sym, ◌∙◌, ap, subst, arith}
 use Rattle.std.specs.Prelude.{Option, Some, None, slice_index}
+use Rattle.std.specs.List.{list_all}
 use Rattle.std.specs.Option.{option_and_then}
+use Rattle.std.proofs.lemmas.Bool.{and_parts}
 use Rattle.std.proofs.lemmas.Option.{same_Some, option_and_then_some}
 use Rattle.frac_math.specs.Fraction.{ℚ, nat}
 use Rattle.colour_matrix.specs.declared.class.Range.{Range}
@@ -22,26 +24,18 @@ use Rattle.op_list.specs.Typing.{stage_after}
 use Rattle.op_list.specs.Apply.{apply}
 use Rattle.op_list.specs.Checked.{checked_apply}
 use Rattle.op_list.specs.Run.{run_from, checked_run_from}
-use Rattle.op_build.specs.Recipe.{only_if, over_three, channel_depth, from_codes, to_codes, is_plain, limits, convert}
+use Rattle.op_build.specs.Recipe.{only_if, over_three, channel_depth, from_codes, to_codes, from_codes_by, to_codes_by, limits, convert}
 use Rattle.op_build.specs.Bounds.{Bound, HaveBounds, bound_in, limited_bound, bounds_after, bounds_from}
-use Rattle.op_build.specs.BoundClasses.{SideClass, side_class_of, side_class, from_class, to_class, source_ops, target_rows_ops, code_bounds, is_there, test_then, every, target_fits, source_fits, side_classes, IsOneOf}
+use Rattle.op_build.specs.BoundClasses.{SideClass, side_class_of, side_class, class_levels, source_ops, target_rows_ops, code_bounds, is_there, test_then, target_fits, source_fits, side_classes, IsOneOf}
 use Rattle.op_build.proofs.BoundFractions.{nat_bound}
 use Rattle.op_build.proofs.BoundSteps.{of_four, run_there}
 use Rattle.op_build.proofs.BoundClasses.{classes_fit}
 
 -- ---- what a true test gives
-every_one : {A : Type 0} (f : A → Bool) (xs : List A) (x : A) → every f xs ≡ true → IsOneOf x xs → f x ≡ true
+every_one : {A : Type 0} (f : A → Bool) (xs : List A) (x : A) → list_all f xs ≡ true → IsOneOf x xs → f x ≡ true
 every_one f [] x h p = absurd p
-every_one f (y ∷ ys) x h (inl e) = ap f e ∙ first_true (f y) (every f ys) h
-  where
-    first_true : (a b : Bool) → (if a then b else false) ≡ true → a ≡ true
-    first_true true b h = refl
-    first_true false b h = h
-every_one f (y ∷ ys) x h (inr p) = every_one f ys x (second_true (f y) (every f ys) h) p
-  where
-    second_true : (a b : Bool) → (if a then b else false) ≡ true → b ≡ true
-    second_true true b h = h
-    second_true false b h = absurd (cc)
+every_one f (y ∷ ys) x h (inl e) = ap f e ∙ (and_parts (f y) (list_all f ys) h).0
+every_one f (y ∷ ys) x h (inr p) = every_one f ys x (and_parts (f y) (list_all f ys) h).1 p
 
 then_there : {A P : Type 0} (o : Option A) (f : A → Bool) → test_then o f ≡ true → ((x : A) → o ≡ Some x → f x ≡ true → P) → P
 then_there None f h use_it = absurd (cc)
@@ -92,23 +86,23 @@ end_there op k greatest least bounds codes last h p q =
 
 -- ---- the list of two classes
 abbrev class_list : SideClass → SideClass → ℕ → List (Option ℚ) → List (Option ℚ) → List Op
-class_list from to k greatest least = source_ops from ++ (target_rows_ops to ++ to_class to ∷ Dither k ∷ Max greatest ∷ Min least ∷ [])
+class_list from to k greatest least = source_ops from ++ (target_rows_ops to ++ to_codes_by (class_levels to) ∷ Dither k ∷ Max greatest ∷ Min least ∷ [])
 
 target_there : (bounds : List Bound) (to : SideClass) (k : ℕ) (greatest least : List (Option ℚ)) (P : Type 0) → k ≤ 4 → target_fits bounds to ≡ true
-    → ((last : List Bound) → bounds_from (target_rows_ops to ++ to_class to ∷ Dither k ∷ Max greatest ∷ Min least ∷ []) bounds ≡ Some last → P) → P
+    → ((last : List Bound) → bounds_from (target_rows_ops to ++ to_codes_by (class_levels to) ∷ Dither k ∷ Max greatest ∷ Min least ∷ []) bounds ≡ Some last → P) → P
 unfolding target_fits
 target_there bounds to k greatest least P h t use_it =
     then_there (bounds_from (target_rows_ops to) bounds) _ t (λ values is_values t2.
-    then_there (bounds_after (to_class to) values) _ t2 (λ codes is_codes t3.
+    then_there (bounds_after (to_codes_by (class_levels to)) values) _ t2 (λ codes is_codes t3.
     there_some (bounds_after (Dither 4) codes) t3 (λ last is_last.
-    use_it (limited_after greatest least last) (append_there (target_rows_ops to) (to_class to ∷ Dither k ∷ Max greatest ∷ Min least ∷ []) bounds values (limited_after greatest least last) is_values
-    (end_there (to_class to) k greatest least values codes last h is_codes is_last)))))
+    use_it (limited_after greatest least last) (append_there (target_rows_ops to) (to_codes_by (class_levels to) ∷ Dither k ∷ Max greatest ∷ Min least ∷ []) bounds values (limited_after greatest least last) is_values
+    (end_there (to_codes_by (class_levels to)) k greatest least values codes last h is_codes is_last)))))
 
 classes_there : (from to : SideClass) (k : ℕ) (greatest least : List (Option ℚ)) (P : Type 0) → k ≤ 4 → IsOneOf from side_classes → IsOneOf to side_classes
     → ((last : List Bound) → bounds_from (class_list from to k greatest least) (code_bounds (slice_index from.depths)) ≡ Some last → P) → P
 unfolding source_fits
 classes_there from to k greatest least P h f t use_it =
-    then_there (bounds_from (source_ops from) (code_bounds (slice_index from.depths))) (λ bounds. every (target_fits bounds) side_classes)
+    then_there (bounds_from (source_ops from) (code_bounds (slice_index from.depths))) (λ bounds. list_all (target_fits bounds) side_classes)
     (every_one (source_fits side_classes) side_classes from classes_fit f) (λ bounds is fits.
     target_there bounds to k greatest least P h (every_one (target_fits bounds) side_classes to fits t) (λ last rest.
     use_it last (append_there (source_ops from) _ _ bounds last is rest)))
@@ -125,7 +119,7 @@ source_same false depths range matrix = refl
 
 target_same : (rgb : Bool) (depths : List ℕ) (range : Range) (matrix : Matrix) (ops : List Op)
     → let raw : SideClass = record { rgb = rgb; depths = depths; range = range; matrix = matrix } in let k = side_class_of rgb depths range matrix in
-    (target_rows_ops raw ++ to_class raw ∷ ops) ≡ (target_rows_ops k ++ to_class k ∷ ops)
+    (target_rows_ops raw ++ to_codes_by (class_levels raw) ∷ ops) ≡ (target_rows_ops k ++ to_codes_by (class_levels k) ∷ ops)
 unfolding levels
 target_same true depths range matrix ops = refl
 target_same false depths range matrix ops = refl
@@ -136,12 +130,12 @@ least_limits pair = limits pair.to.desc (λ c. nat 0)
 abbrev greatest_limits : Pair → List (Option ℚ)
 greatest_limits pair = limits pair.to.desc (λ c. nat (2 ^ channel_depth pair.to.desc c - 1))
 
-from_raw : (side : Side) → from_codes side ≡ from_class (raw_class side)
-unfolding from_codes is_plain
+from_raw : (side : Side) → from_codes side ≡ from_codes_by (class_levels (raw_class side))
+unfolding from_codes
 from_raw side = refl
 
-to_raw : (side : Side) → to_codes side ≡ to_class (raw_class side)
-unfolding to_codes is_plain
+to_raw : (side : Side) → to_codes side ≡ to_codes_by (class_levels (raw_class side))
+unfolding to_codes
 to_raw side = refl
 
 in_parts : (a b : Bool) (first x y last : Op) (tail : List Op)
@@ -166,7 +160,7 @@ convert_classes pair =
     let tail = Dither pair.dither ∷ Max (least_limits pair) ∷ Min (greatest_limits pair) ∷ [] in
     convert_raw pair
     ∙ ap (λ ops. Convert Rat Bool.false ∷ ops)
-    (ap (λ ops. ops ++ (target_rows_ops (raw_class pair.to) ++ to_class (raw_class pair.to) ∷ tail)) (source_same (is_rgb pair.from.desc) (four (λ c. channel_depth pair.from.desc c)) pair.from.range pair.from.matrix)
+    (ap (λ ops. ops ++ (target_rows_ops (raw_class pair.to) ++ to_codes_by (class_levels (raw_class pair.to)) ∷ tail)) (source_same (is_rgb pair.from.desc) (four (λ c. channel_depth pair.from.desc c)) pair.from.range pair.from.matrix)
     ∙ ap (λ ops. source_ops (side_class pair.from) ++ ops) (target_same (is_rgb pair.to.desc) (four (λ c. channel_depth pair.to.desc c)) pair.to.range pair.to.matrix tail))
 
 -- ---- from the codes

@@ -22,7 +22,7 @@ use Rattle.op_list.specs.Values.{four}
 use Rattle.op_list.specs.Apply.{apply}
 use Rattle.op_list.specs.Run.{run_from}
 use Rattle.op_list.specs.Typing.{stage_after, stage_from}
-use Rattle.op_build.specs.Recipe.{only_if, channel_levels, is_plain, diagonal, over_three, from_codes, to_codes}
+use Rattle.op_build.specs.Recipe.{only_if, channel_levels, are_plain, diagonal, over_three, from_codes, to_codes}
 
 pub same_fractions : (a b c d e f g h : ℚ) → a ≡ e → b ≡ f → c ≡ g → d ≡ h → Fractions (a ∷ b ∷ c ∷ d ∷ []) ≡ Fractions (e ∷ f ∷ g ∷ h ∷ [])
 same_fractions a b c d e f g h p q r s = λ i. Fractions (p i ∷ q i ∷ r i ∷ s i ∷ [])
@@ -70,8 +70,7 @@ record IsPlain (l : ℕ → Levels) : Type 0 where
   pub base2 : (l 2).base ≡ nat 0
   pub base3 : (l 3).base ≡ nat 0
 
-plain_is : (side : Side) → is_plain side ≡ true → IsPlain (channel_levels side)
-unfolding is_plain
+plain_is : (side : Side) → are_plain (channel_levels side) ≡ true → IsPlain (channel_levels side)
 plain_is side h =
     let p6 = and_parts _ _ h in let p5 = and_parts _ _ p6.0 in let p4 = and_parts _ _ p5.0 in
     let p3 = and_parts _ _ p4.0 in let p2 = and_parts _ _ p3.0 in let p1 = and_parts _ _ p2.0 in
@@ -132,13 +131,13 @@ pub from_codes-applied : (frame : List ℕ) (place : Place) (stage : Stage) (sid
 unfolding from_codes
 from_codes-applied frame place stage side f =
     ⊎_elim
-    (λ (plain : is_plain side ≡ true).
+    (λ (plain : are_plain (channel_levels side) ≡ true).
     ap (λ b. apply frame place stage (from_op b (channel_levels side)) (Fractions (four f))) plain
     ∙ from_plain frame place stage (channel_levels side) f (plain_is side plain))
-    (λ (not_plain : is_plain side ≡ false).
+    (λ (not_plain : are_plain (channel_levels side) ≡ false).
     ap (λ b. apply frame place stage (from_op b (channel_levels side)) (Fractions (four f))) not_plain
     ∙ from_linear frame place stage (channel_levels side) f)
-    (cases_Bool (is_plain side))
+    (cases_Bool (are_plain (channel_levels side)))
 
 to_plain : (frame : List ℕ) (place : Place) (stage : Stage) (l : ℕ → Levels) (f : ℕ → ℚ) → IsPlain l
     → apply frame place stage (to_op true l) (Fractions (four f)) ≡ Fractions (four (λ c. to_code (l c) (f c)))
@@ -161,25 +160,25 @@ pub to_codes-applied : (frame : List ℕ) (place : Place) (stage : Stage) (side 
 unfolding to_codes
 to_codes-applied frame place stage side f =
     ⊎_elim
-    (λ (plain : is_plain side ≡ true).
+    (λ (plain : are_plain (channel_levels side) ≡ true).
     ap (λ b. apply frame place stage (to_op b (channel_levels side)) (Fractions (four f))) plain
     ∙ to_plain frame place stage (channel_levels side) f (plain_is side plain))
-    (λ (not_plain : is_plain side ≡ false).
+    (λ (not_plain : are_plain (channel_levels side) ≡ false).
     ap (λ b. apply frame place stage (to_op b (channel_levels side)) (Fractions (four f))) not_plain
     ∙ to_linear frame place stage (channel_levels side) f)
-    (cases_Bool (is_plain side))
+    (cases_Bool (are_plain (channel_levels side)))
 
 -- ---- neither changes the type
 
 pub from_codes-stage : (stage : Stage) (side : Side) → stage_after stage (from_codes side) ≡ stage
 unfolding from_codes stage_after
 from_codes-stage stage side =
-    elim (is_plain side) as (λ b. stage_after stage (from_op b (channel_levels side)) ≡ stage) [ true ↦ refl | false ↦ refl ]
+    elim (are_plain (channel_levels side)) as (λ b. stage_after stage (from_op b (channel_levels side)) ≡ stage) [ true ↦ refl | false ↦ refl ]
 
 pub to_codes-stage : (stage : Stage) (side : Side) → stage_after stage (to_codes side) ≡ stage
 unfolding to_codes stage_after
 to_codes-stage stage side =
-    elim (is_plain side) as (λ b. stage_after stage (to_op b (channel_levels side)) ≡ stage) [ true ↦ refl | false ↦ refl ]
+    elim (are_plain (channel_levels side)) as (λ b. stage_after stage (to_op b (channel_levels side)) ≡ stage) [ true ↦ refl | false ↦ refl ]
 
 -- ---- rows over the first three values
 

@@ -1,21 +1,21 @@
 -- The test of the bounds over the classes of sides: what the recipe takes of a side, for the formats of the table and the five matrices.
 use Rattle.std.specs.Prelude.{◌≡◌, ◌⊎◌, ℕ, zero, suc, ◌-◌, ◌^◌, Bool, true, false, not, if◌then◌else◌, List, [], ◌∷◌, ◌++◌, Option, Some, None, slice_index}
-use Rattle.frac_math.specs.Fraction.{nat, neg_ℚ, ◌/ℚ◌}
+use Rattle.std.specs.List.{list_all}
 use Rattle.colour_matrix.specs.declared.class.Class.{Class}
 use Rattle.colour_matrix.specs.declared.class.Class.TheVariants.{Direct, Luma, Chroma}
 use Rattle.colour_matrix.specs.declared.class.Range.{Range}
 use Rattle.colour_matrix.specs.declared.class.Range.TheVariants.{Full, Limited}
 use Rattle.colour_matrix.specs.declared.class.Levels.{Levels}
 use Rattle.colour_matrix.specs.declared.matrix.Matrix.{Matrix}
-use Rattle.colour_matrix.specs.Matrix.{of_parts}
+use Rattle.colour_matrix.specs.Matrix.{bt601, bt709, bt2020, smpte240m, fcc}
 use Rattle.colour_matrix.specs.Levels.{levels}
 use Rattle.colour_matrix.specs.Colour.{to_rgb_rows, from_rgb_rows}
 use Rattle.pix_meaning.specs.declared.pair.Side.{Side}
 use Rattle.pix_meaning.specs.Pairs.{is_rgb}
 use Rattle.op_list.specs.declared.op.Op.{Op}
-use Rattle.op_list.specs.declared.op.Op.TheVariants.{Dither, Linear, Scale}
+use Rattle.op_list.specs.declared.op.Op.TheVariants.{Dither, Linear}
 use Rattle.op_list.specs.Values.{four}
-use Rattle.op_build.specs.Recipe.{only_if, channel_depth, are_plain, diagonal, over_three}
+use Rattle.op_build.specs.Recipe.{only_if, channel_depth, from_codes_by, to_codes_by, over_three}
 use Rattle.op_build.specs.Bounds.{Bound, bound, bounds_after, bounds_from}
 
 -- whether the channels are red, green and blue, the depths of the four channels, the range and the matrix
@@ -28,7 +28,7 @@ pub record SideClass : Type 0 where
 -- range and matrix are of no account for red, green and blue
 abbrev pub side_class_of : Bool → List ℕ → Range → Matrix → SideClass
 side_class_of rgb depths range matrix =
-    record { rgb = rgb; depths = depths; range = if rgb then Full else range; matrix = if rgb then of_parts 1000 299 114 else matrix }
+    record { rgb = rgb; depths = depths; range = if rgb then Full else range; matrix = if rgb then bt601 else matrix }
 
 abbrev pub side_class : Side → SideClass
 side_class side = side_class_of (is_rgb side.desc) (four (λ c. channel_depth side.desc c)) side.range side.matrix
@@ -44,18 +44,8 @@ class_at rgb (suc (suc (suc c))) = Direct
 abbrev pub class_levels : SideClass → ℕ → Levels
 class_levels k c = levels (class_at k.rgb c) (slice_index k.depths c) k.range
 
-abbrev pub from_class : SideClass → Op
-from_class k =
-    let l = class_levels k in
-    if are_plain l then Scale (nat 1 /ℚ (l 0).scale) else Linear (diagonal (λ c. nat 1 /ℚ (l c).scale) (λ c. neg_ℚ (l c).base /ℚ (l c).scale))
-
-abbrev pub to_class : SideClass → Op
-to_class k =
-    let l = class_levels k in
-    if are_plain l then Scale (l 0).scale else Linear (diagonal (λ c. (l c).scale) (λ c. (l c).base))
-
 abbrev pub source_ops : SideClass → List Op
-source_ops k = from_class k ∷ only_if (not k.rgb) (Linear (over_three (to_rgb_rows k.matrix)))
+source_ops k = from_codes_by (class_levels k) ∷ only_if (not k.rgb) (Linear (over_three (to_rgb_rows k.matrix)))
 
 abbrev pub target_rows_ops : SideClass → List Op
 target_rows_ops k = only_if (not k.rgb) (Linear (over_three (from_rgb_rows k.matrix)))
@@ -73,16 +63,12 @@ abbrev pub test_then : {A : Type 0} → Option A → (A → Bool) → Bool
 test_then None f = false
 test_then (Some x) f = f x
 
-abbrev pub every : {A : Type 0} → (A → Bool) → List A → Bool
-every f [] = true
-every f (x ∷ xs) = if f x then every f xs else false
-
 unfoldable pub target_fits : List Bound → SideClass → Bool
 target_fits bounds to =
-    test_then (bounds_from (target_rows_ops to) bounds) (λ values. test_then (bounds_after (to_class to) values) (λ codes. is_there (bounds_after (Dither 4) codes)))
+    test_then (bounds_from (target_rows_ops to) bounds) (λ values. test_then (bounds_after (to_codes_by (class_levels to)) values) (λ codes. is_there (bounds_after (Dither 4) codes)))
 
 unfoldable pub source_fits : List SideClass → SideClass → Bool
-source_fits targets from = test_then (bounds_from (source_ops from) (code_bounds (slice_index from.depths))) (λ bounds. every (target_fits bounds) targets)
+source_fits targets from = test_then (bounds_from (source_ops from) (code_bounds (slice_index from.depths))) (λ bounds. list_all (target_fits bounds) targets)
 
 -- ---- the classes
 
@@ -92,7 +78,7 @@ for_each (x ∷ xs) f = f x ++ for_each xs f
 
 -- the matrices that have names
 abbrev pub named_matrices : List Matrix
-named_matrices = of_parts 1000 299 114 ∷ of_parts 10000 2126 722 ∷ of_parts 10000 2627 593 ∷ of_parts 1000 212 87 ∷ of_parts 100 30 11 ∷ []
+named_matrices = bt601 ∷ bt709 ∷ bt2020 ∷ smpte240m ∷ fcc ∷ []
 
 -- the depths of luma and chroma: all channels have the same
 abbrev pub yuv_depths : List ℕ
@@ -110,7 +96,7 @@ yuv_classes =
     record { rgb = false; depths = four (λ c. depth); range = range; matrix = matrix } ∷ [])))
 
 abbrev pub rgb_classes : List SideClass
-rgb_classes = for_each rgb_depths (λ depths. record { rgb = true; depths = depths; range = Full; matrix = of_parts 1000 299 114 } ∷ [])
+rgb_classes = for_each rgb_depths (λ depths. record { rgb = true; depths = depths; range = Full; matrix = bt601 } ∷ [])
 
 unfoldable pub side_classes : List SideClass
 side_classes = rgb_classes ++ yuv_classes

@@ -64,9 +64,6 @@ are_plain l =
     equal_ℚ (l 1).scale (l 0).scale && equal_ℚ (l 2).scale (l 0).scale && equal_ℚ (l 3).scale (l 0).scale
     && equal_ℚ (l 0).base (nat 0) && equal_ℚ (l 1).base (nat 0) && equal_ℚ (l 2).base (nat 0) && equal_ℚ (l 3).base (nat 0)
 
-unfoldable pub is_plain : Side → Bool
-is_plain side = are_plain (channel_levels side)
-
 -- a row of Linear: its coefficient j, and its constant
 abbrev pub linear_row : (ℕ → ℚ) → ℚ → List ℚ
 linear_row at constant = at 0 ∷ at 1 ∷ at 2 ∷ at 3 ∷ constant ∷ []
@@ -80,18 +77,20 @@ abbrev pub over_three : List (List ℚ) → List (List ℚ)
 over_three rows = four (λ i. linear_row (λ j.
     if nat_eq i 3 then (if nat_eq j 3 then nat 1 else nat 0) else (if nat_eq j 3 then nat 0 else coefficient (row_at rows i) j)) (nat 0))
 
--- codes to values: value = code / scale - base / scale
+-- codes to values by the levels of the channels: value = code / scale - base / scale
+abbrev pub from_codes_by : (ℕ → Levels) → Op
+from_codes_by l =
+    if are_plain l then Scale (nat 1 /ℚ (l 0).scale) else Linear (diagonal (λ c. nat 1 /ℚ (l c).scale) (λ c. neg_ℚ (l c).base /ℚ (l c).scale))
+
 unfoldable pub from_codes : Side → Op
-from_codes side =
-    let l = channel_levels side in
-    if is_plain side then Scale (nat 1 /ℚ (l 0).scale)
-    else Linear (diagonal (λ c. nat 1 /ℚ (l c).scale) (λ c. neg_ℚ (l c).base /ℚ (l c).scale))
+from_codes side = from_codes_by (channel_levels side)
 
 -- values to codes: code = scale * value + base
+abbrev pub to_codes_by : (ℕ → Levels) → Op
+to_codes_by l = if are_plain l then Scale (l 0).scale else Linear (diagonal (λ c. (l c).scale) (λ c. (l c).base))
+
 unfoldable pub to_codes : Side → Op
-to_codes side =
-    let l = channel_levels side in
-    if is_plain side then Scale (l 0).scale else Linear (diagonal (λ c. (l c).scale) (λ c. (l c).base))
+to_codes side = to_codes_by (channel_levels side)
 
 -- a limit for each channel of a format
 abbrev pub limits : Desc → (ℕ → ℚ) → List (Option ℚ)

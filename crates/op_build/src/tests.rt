@@ -1,24 +1,28 @@
-// How long lists are, and which pairs have none.
+// How long lists are, which pairs have none, and one list as another program makes it from the same recipe.
 use crate::{BuildFault, build};
 use colour_matrix::{Matrix, Range};
+use frac_math::Frac;
+use op_list::{Op, PixType};
 use pix_desc::{Comp, Desc};
 use pix_meaning::{Pair, Side, pair_valid};
 use std::alloc::Global;
+use std::test::Fail;
 
-// A format of bytes in one plane.
-fn side(count: u8, rgb: bool, alpha: bool, palette: bool) -> Side {
-    let at = |offset| Comp {
-        plane: 0,
-        step: count,
-        offset,
-        shift: 0,
-        depth: 8,
-    };
+// Offset, shift and depth of a component.
+type Bits = (i8, u8, u8);
+
+// A side of these components, with the matrix bt601 and a limited range.
+fn side_of(
+    count: u8,
+    comps: [Comp; 4],
+    be: bool,
+    (rgb, alpha, palette): (bool, bool, bool),
+) -> Side {
     Side {
         desc: Desc {
             count,
-            comps: [at(0), at(1), at(2), at(3)],
-            be: false,
+            comps,
+            be,
             rgb,
             alpha,
             palette,
@@ -30,6 +34,23 @@ fn side(count: u8, rgb: bool, alpha: bool, palette: bool) -> Side {
         },
         range: Range::Limited,
     }
+}
+
+// A format of bytes in one plane.
+fn side(count: u8, rgb: bool, alpha: bool, palette: bool) -> Side {
+    let at = |offset| Comp {
+        plane: 0,
+        step: count,
+        offset,
+        shift: 0,
+        depth: 8,
+    };
+    side_of(
+        count,
+        [at(0), at(1), at(2), at(3)],
+        false,
+        (rgb, alpha, palette),
+    )
 }
 
 // How many operations the list has; no answer where the pair is not valid.
@@ -61,4 +82,120 @@ fn lists(rt: HostRuntime) {
     ] {
         assert_eq!(rt; list_length(rt.alloc(), from, to), Some(want));
     }
+}
+
+// A format of one word: the bytes of a pixel, its byte order, and offset, shift and depth of red, green and blue.
+fn word(step: u8, be: bool, red: Bits, green: Bits, blue: Bits) -> Side {
+    let at = |(offset, shift, depth)| Comp {
+        plane: 0,
+        step,
+        offset,
+        shift,
+        depth,
+    };
+    side_of(
+        3,
+        [at(red), at(green), at(blue), at((0, 0, 0))],
+        be,
+        (true, false, false),
+    )
+}
+
+// n/d, which is there for small numbers.
+fn fraction(n: i128, d: i128) -> Frac {
+    Frac::new(n, d).unwrap_or(Frac::whole(0))
+}
+
+// A row with one coefficient.
+fn row(place: usize, coefficient: Frac) -> [Frac; 5] {
+    let zero = Frac::whole(0);
+    let at = |i| if i == place { coefficient } else { zero };
+    [at(0), at(1), at(2), at(3), zero]
+}
+
+// The operations from rgb565be to the values of its channels, and from these to x2rgb10le.
+fn decoding() -> [Op; 7] {
+    let thirty_first = fraction(1, 31);
+    [
+        Op::Read {
+            elem: PixType::U16,
+            planes: [1, 0, 0, 0],
+            palette: false,
+        },
+        Op::SwapBytes,
+        Op::Unpack {
+            widths: [5, 6, 5, 0],
+        },
+        Op::Swizzle { from: [0, 1, 2, 3] },
+        Op::Clear {
+            values: [None, None, None, Some(Frac::whole(31))],
+        },
+        Op::Convert {
+            to: PixType::Rat,
+            expand: false,
+        },
+        Op::Linear {
+            rows: [
+                row(0, thirty_first),
+                row(1, fraction(1, 63)),
+                row(2, thirty_first),
+                row(3, thirty_first),
+            ],
+        },
+    ]
+}
+
+// A limit of red, green and blue.
+fn limits(n: i128) -> [Option<Frac>; 4] {
+    [
+        Some(Frac::whole(n)),
+        Some(Frac::whole(n)),
+        Some(Frac::whole(n)),
+        None,
+    ]
+}
+
+fn encoding() -> [Op; 9] {
+    [
+        Op::Scale {
+            by: Frac::whole(1023),
+        },
+        Op::Dither { k: 0 },
+        Op::Max { limits: limits(0) },
+        Op::Min {
+            limits: limits(1023),
+        },
+        Op::Convert {
+            to: PixType::U32,
+            expand: false,
+        },
+        Op::Swizzle { from: [0, 0, 1, 2] },
+        Op::Clear {
+            values: [Some(Frac::whole(0)), None, None, None],
+        },
+        Op::Pack {
+            widths: [2, 10, 10, 10],
+        },
+        Op::Write {
+            elem: PixType::U32,
+            planes: [1, 0, 0, 0],
+        },
+    ]
+}
+
+#[test]
+fn list_between_words(rt: HostRuntime) -> Result<(), Fail> {
+    let pair = Pair {
+        from: word(2, true, (-1, 3, 5), (0, 5, 6), (0, 0, 5)),
+        to: word(4, false, (2, 4, 10), (1, 2, 10), (0, 0, 10)),
+        dither: 0,
+    };
+    if !pair_valid(&pair) {
+        return Err(Fail::from("the pair is not valid"));
+    }
+    let list = build(rt.alloc(), &pair).ok().ok_or("a list")?;
+    assert_eq!(rt; list.ops().len(), 16);
+    assert_eq!(rt; &list.ops()[..7], decoding().as_slice());
+    assert_eq!(rt; &list.ops()[7..], encoding().as_slice());
+    Ok(())
 }

@@ -3,8 +3,7 @@ use Rattle.std.specs.Prelude.{◌≡◌, ℕ, Bool, true, false, ℤ, pos, negsu
 use Rattle.pix_desc.specs.declared.desc.Comp.{Comp}
 use Rattle.pix_desc.specs.declared.desc.Desc.{Desc}
 use Rattle.pix_desc.specs.Component.{no_component}
-use Rattle.colour_matrix.specs.Matrix.{of_parts}
-use Rattle.colour_matrix.specs.declared.matrix.Matrix.{Matrix}
+use Rattle.colour_matrix.specs.Matrix.{bt601, bt709}
 use Rattle.colour_matrix.specs.declared.class.Range.TheVariants.{Full, Limited}
 use Rattle.pix_meaning.specs.declared.pair.Side.{Side}
 use Rattle.pix_meaning.specs.declared.pair.Pair.{Pair}
@@ -62,12 +61,6 @@ pal8 = record gray { alpha = true; palette = true }
 -- entry 1 of the palette is B 10, G 40, R FF and alpha 80, and all others are 0
 abbrev pub palette : List ℕ
 palette = replicate 4 0 ++ (0x10 ∷ 0x40 ∷ 0xFF ∷ 0x80 ∷ []) ++ replicate 1016 0
-
-abbrev pub bt601 : Matrix
-bt601 = of_parts 1000 299 114
-
-abbrev pub bt709 : Matrix
-bt709 = of_parts 10000 2126 722
 
 -- a side with the matrix bt601
 abbrev pub full : Desc → Side

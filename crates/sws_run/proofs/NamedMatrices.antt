@@ -4,7 +4,7 @@ use Rattle.std.specs.Prelude.{Option, Some, codes}
 use Rattle.std.specs.Str.{bytes_eq}
 use Rattle.std.proofs.lemmas.Option.{none-some, same_Some}
 use Rattle.colour_matrix.specs.declared.matrix.Matrix.{Matrix}
-use Rattle.colour_matrix.specs.Matrix.{IsMatrix, of_parts, matrix_named}
+use Rattle.colour_matrix.specs.Matrix.{IsMatrix, of_parts, bt601, bt709, bt2020, smpte240m, fcc, matrix_named}
 use Rattle.op_build.specs.BoundClasses.{named_matrices, IsOneOf}
 use Rattle.sws_run.specs.Evaluated.{IsNamed}
 
@@ -15,14 +15,14 @@ answered P true first matrix others holds behind same = subst P (same_Some first
 answered P false first matrix others holds behind same = behind same
 
 -- what is true of each of the five is true of a matrix that has a name
-of_each_named : (P : Matrix → Type 0) → P (of_parts 1000 299 114) → P (of_parts 10000 2126 722) → P (of_parts 10000 2627 593) → P (of_parts 1000 212 87) → P (of_parts 100 30 11)
+of_each_named : (P : Matrix → Type 0) → P bt601 → P bt709 → P bt2020 → P smpte240m → P fcc
     → (matrix : Matrix) (name : List ℕ) → matrix_named name ≡ Some matrix → P matrix
-of_each_named P bt601 bt709 bt2020 smpte240m fcc matrix name =
-    answered P (bytes_eq name (codes "bt601")) _ matrix _ bt601 (
-    answered P (bytes_eq name (codes "bt709")) _ matrix _ bt709 (
-    answered P (bytes_eq name (codes "bt2020")) _ matrix _ bt2020 (
-    answered P (bytes_eq name (codes "smpte240m")) _ matrix _ smpte240m (
-    answered P (bytes_eq name (codes "fcc")) _ matrix _ fcc (λ none. absurd (none-some matrix none))))))
+of_each_named P first second third fourth fifth matrix name =
+    answered P (bytes_eq name (codes "bt601")) _ matrix _ first (
+    answered P (bytes_eq name (codes "bt709")) _ matrix _ second (
+    answered P (bytes_eq name (codes "bt2020")) _ matrix _ third (
+    answered P (bytes_eq name (codes "smpte240m")) _ matrix _ fourth (
+    answered P (bytes_eq name (codes "fcc")) _ matrix _ fifth (λ none. absurd (none-some matrix none))))))
 
 pub listed_matrix : (matrix : Matrix) → IsNamed matrix → IsOneOf matrix named_matrices
 listed_matrix matrix named =
@@ -44,5 +44,5 @@ named_is_matrix matrix named =
     matrix named.name named.found
 
 -- the matrix of the run
-pub bt601_is_named : IsNamed (of_parts 1000 299 114)
+pub bt601_is_named : IsNamed bt601
 bt601_is_named = record { name = codes "bt601"; found = refl }

@@ -6,7 +6,7 @@ use Rattle.std.proofs.lemmas.Slice.Eq.{bytes_eq-Decides}
 use Rattle.colour_matrix.specs.declared.class.Range.{Range}
 use Rattle.colour_matrix.specs.declared.class.Range.TheVariants.{Full, Limited}
 use Rattle.colour_matrix.specs.declared.matrix.Matrix.{Matrix}
-use Rattle.colour_matrix.specs.Matrix.{of_parts}
+use Rattle.colour_matrix.specs.Matrix.{bt601}
 use Rattle.pix_desc.specs.declared.desc.Desc.{Desc}
 use Rattle.pix_meaning.specs.Pairs.{is_rgb}
 use Rattle.desc_table.specs.Format.{formats, format_count, desc_of}
@@ -37,7 +37,7 @@ kind_at = agree_at_row (λ format. has_kind_of format.desc) (λ format. true) ki
 -- ---- each kind with each range and each named matrix is a class
 
 abbrev rgb_class : List ℕ → SideClass
-rgb_class depths = record { rgb = true; depths = depths; range = Full; matrix = of_parts 1000 299 114 }
+rgb_class depths = record { rgb = true; depths = depths; range = Full; matrix = bt601 }
 
 rgb_there : (depths : List ℕ) → has_kind true depths ≡ true → IsOneOf (rgb_class depths) rgb_classes
 rgb_there depths has =

@@ -3,7 +3,7 @@ use Rattle.std.specs.Prelude.{ℕ, Bool, not, ◌&&◌, if◌then◌else◌, nat
 use Rattle.std.specs.Str.{bytes_eq}
 use Rattle.colour_matrix.specs.declared.class.Range.{Range}
 use Rattle.colour_matrix.specs.declared.class.Range.TheVariants.{Full, Limited}
-use Rattle.colour_matrix.specs.Matrix.{of_parts}
+use Rattle.colour_matrix.specs.Matrix.{bt601}
 use Rattle.pix_desc.specs.declared.desc.Desc.{Desc}
 use Rattle.pix_meaning.specs.declared.pair.Side.{Side}
 use Rattle.pix_meaning.specs.declared.pair.Pair.{Pair}
@@ -22,7 +22,7 @@ default_range id = if has_chroma (desc_of id) && not (bytes_eq (name_of id) (cod
 
 -- a side with the matrix bt601 and the default range
 abbrev pub side_of : ℕ → Side
-side_of id = side_at id (of_parts 1000 299 114) (default_range id)
+side_of id = side_at id bt601 (default_range id)
 
 -- rounded to the nearest, half up
 abbrev pub pair_of : Task → Pair

@@ -1,5 +1,5 @@
 use Rattle.std.proofs.Common.{◌∙◌, sym, refl, arith}
-use Rattle.op_build.specs.Recipe.{channel_levels, is_plain, from_codes}
+use Rattle.op_build.specs.Recipe.{channel_levels, from_codes}
 use Rattle.op_build.proofs.LevelSizes.{small_levels}
 use Rattle.op_build.proofs.code_values.from_codes.Goals as goal
 
@@ -7,7 +7,7 @@ pub value_step-requires : goal.value_step-requires
 value_step-requires c = rw c.side_levels-levels.ensures (small_levels c.args.side.now 0 c.requires (omega arith))
 
 pub returns-then-are_plain : goal.returns-then-are_plain
-unfolding from_codes is_plain
+unfolding from_codes
 returns-then-are_plain c =
     let plain = sym (c.are_plain.ensures (channel_levels c.args.side.now) c.side_levels-levels.ensures) ∙ c.if-are_plain.true in
     rw (c.value_step.ensures, c.side_levels-levels.ensures, plain) refl
@@ -37,7 +37,7 @@ pub value_of_zero-requires-4 : goal.value_of_zero-requires-4
 value_of_zero-requires-4 c = rw c.side_levels-levels.ensures (small_levels c.args.side.now 3 c.requires (omega arith))
 
 pub returns : goal.returns
-unfolding from_codes is_plain
+unfolding from_codes
 returns c =
     let plain = sym (c.are_plain.ensures (channel_levels c.args.side.now) c.side_levels-levels.ensures) ∙ c.if-are_plain.false in
     rw (
