@@ -4,7 +4,7 @@
 mod dither;
 mod divisor;
 mod frac;
-mod laws;
+pub mod laws;
 mod memory;
 mod product;
 #[cfg(test)]
@@ -12,8 +12,4 @@ mod tests;
 
 pub use dither::dither_at;
 pub use frac::Frac;
-pub use laws::{
-    checked_exactly, compared_exactly, dither_is_distinct, dither_is_inside, dither_keeps_whole,
-    dither_repeats,
-};
 pub use memory::OutOfMemory;

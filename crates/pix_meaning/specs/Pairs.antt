@@ -33,7 +33,7 @@ component_count desc = if desc.palette then 4 else desc.count
 abbrev pub depth_of : Desc → ℕ → ℕ
 depth_of desc j = if desc.palette then 8 else (component_of desc j).depth
 
--- A channel is a place of a pixel's values: 0 to 3 are R, G, B and alpha, or Y, U, V and alpha. Gray has no channels 1 and 2
+-- A channel is one of a pixel's four values: 0 to 3 are R, G, B and alpha, or Y, U, V and alpha. Gray has no channels 1 and 2
 -- (pixdesc.h, AVPixFmtDescriptor, comp).
 abbrev pub has_channel : Desc → ℕ → Bool
 has_channel desc zero = Bool.true

@@ -1,4 +1,4 @@
-// The laws of the definitions, each the contract of a function.
+//! Laws of the meaning of a conversion: each is the contract of a function without a body.
 ghost use Rattle.std.specs.Prelude.{◌≡◌, ℕ, false, List};
 ghost use Rattle.pix_desc.specs.declared.desc.Desc.{Desc};
 ghost use Rattle.pix_desc.specs.Layouts.{IsValid};

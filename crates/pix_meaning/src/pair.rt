@@ -18,6 +18,6 @@ pub struct Side {
 pub struct Pair {
     pub from: Side,
     pub to: Side,
-    /// 0 to 4. At 0 every place has the value 1/2: rounding to the nearest, half up.
+    /// 0 to 4. At 0 every pixel has the value 1/2: rounding to the nearest, half up.
     pub dither: u8,
 }
