@@ -54,7 +54,8 @@ sum_stands (suc i) x y =
     let n = index (digit i x) (digit i y) in
     let e : 4 ^ (i + 1) ≡ 4 ^ suc i = ap (λ (m : ℕ). 4 ^ m) (add-one i) in
     let step : 4 ^ (i + 1) ≡ 4 * 4 ^ i = omega (arith, e, pow-suc 4 i) in
-    change _ _ _ _ _ (add_stands _ _ _ _ _ _ (sum_stands i x y) (over_stands (pos n) (4 ^ (i + 1)) (power_positive (i + 1)))) (power_positive (suc i))
+    change _ _ _ _ _ (add_stands _ _ _ _ _ _ (sum_stands i x y) (over_stands (pos n) (4 ^ (i + 1)) (power_positive (i + 1))))
+    (power_positive (suc i))
     (ap pos (over_products (index_number i x y) n (4 ^ i) (4 ^ (i + 1)) (4 ^ suc i) step e))
 
 halves : (n p : ℕ) → (n * (2 * p) + 1 * p) * (2 * p) ≡ (2 * n + 1) * (p * (2 * p))
@@ -64,10 +65,12 @@ pub dither_stands : (k x y : ℕ) → Stands (dither_at k x y) (pos (2 * index_n
 unfolding dither_at
 dither_stands k x y =
     let positive : 0 < 2 * 4 ^ k = omega (arith, power_positive k) in
-    change _ _ _ _ _ (add_stands _ _ _ _ _ _ (sum_stands k x y) (over_stands (pos 1) (2 * 4 ^ k) positive)) positive (ap pos (halves (index_number k x y) (4 ^ k)))
+    change _ _ _ _ _ (add_stands _ _ _ _ _ _ (sum_stands k x y) (over_stands (pos 1) (2 * 4 ^ k) positive)) positive
+    (ap pos (halves (index_number k x y) (4 ^ k)))
 
 -- what the code's two numbers give
-pub dither_known : (r : ℚ) (k i x y sum cells : ℕ) → i ≡ k → sum ≡ index_number i x y → cells ≡ 4 ^ i → r ≡ over (pos (2 * sum + 1)) (2 * cells) → r ≡ dither_at k x y
+pub dither_known : (r : ℚ) (k i x y sum cells : ℕ) → i ≡ k → sum ≡ index_number i x y → cells ≡ 4 ^ i
+    → r ≡ over (pos (2 * sum + 1)) (2 * cells) → r ≡ dither_at k x y
 dither_known r k i x y sum cells e p q h =
     let positive : 0 < 2 * 4 ^ k = omega (arith, power_positive k) in
     h
@@ -160,13 +163,17 @@ index_number_digits (suc k) x y u v e =
     let n = index_most (digit k u) (digit k v) in
     let rest = index_number_digits k x y u v (omega arith) in
     let last : index (digit k x) (digit k y) ≡ index (digit k u) (digit k v) = omega arith in
-    let column = sym (column_of-index (digit k x) (digit k y) (digit_below k x) (digit_below k y)) ∙ ap column_of last ∙ column_of-index (digit k u) (digit k v) (digit_below k u) (digit_below k v) in
-    let row = sym (row_of-index (digit k x) (digit k y) (digit_below k x) (digit_below k y)) ∙ ap row_of last ∙ row_of-index (digit k u) (digit k v) (digit_below k u) (digit_below k v) in
+    let column = sym (column_of-index (digit k x) (digit k y) (digit_below k x) (digit_below k y)) ∙ ap column_of last
+    ∙ column_of-index (digit k u) (digit k v) (digit_below k u) (digit_below k v) in
+    let row = sym (row_of-index (digit k x) (digit k y) (digit_below k x) (digit_below k y)) ∙ ap row_of last
+    ∙ row_of-index (digit k u) (digit k v) (digit_below k u) (digit_below k v) in
     (one_more k x u column rest.0, one_more k y v row rest.1)
 
-pub dither_distinct : (k x y u v : ℕ) → x < 2 ^ k → y < 2 ^ k → u < 2 ^ k → v < 2 ^ k → dither_at k x y ≡ dither_at k u v → (x ≡ u) × (y ≡ v)
+pub dither_distinct : (k x y u v : ℕ) → x < 2 ^ k → y < 2 ^ k → u < 2 ^ k → v < 2 ^ k → dither_at k x y ≡ dither_at k u v
+    → (x ≡ u) × (y ≡ v)
 dither_distinct k x y u v a b c d e =
     let numbers : pos (2 * index_number k x y + 1) ≡ pos (2 * index_number k u v + 1) =
-    same_numerator _ _ _ _ (dither_stands k x y) (subst (λ (q : ℚ). Stands q (pos (2 * index_number k u v + 1)) (2 * 4 ^ k)) (sym e) (dither_stands k u v)) in
+    same_numerator _ _ _ _ (dither_stands k x y)
+    (subst (λ (q : ℚ). Stands q (pos (2 * index_number k u v + 1)) (2 * 4 ^ k)) (sym e) (dither_stands k u v)) in
     let digits = index_number_digits k x y u v (omega (arith, ints, numbers)) in
     (sym (mod-eq_of_lt a) ∙ digits.0 ∙ mod-eq_of_lt c, sym (mod-eq_of_lt b) ∙ digits.1 ∙ mod-eq_of_lt d)

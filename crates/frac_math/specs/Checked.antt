@@ -36,7 +36,8 @@ unfoldable pub checked_sum : ℚ → ℚ → Option ℚ
 checked_sum x y =
     let left = x.numerator *ℤ pos y.denominator in
     let right = y.numerator *ℤ pos x.denominator in
-    if is_i128 left && is_i128 right && is_i128 (left +ℤ right) && is_i128 (pos x.denominator *ℤ pos y.denominator) then Some (x +ℚ y) else None
+    if is_i128 left && is_i128 right && is_i128 (left +ℤ right) && is_i128 (pos x.denominator *ℤ pos y.denominator) then Some (x +ℚ y)
+    else None
 
 -- of a/b * c/d the numbers a c and b d fit
 pub record ProductFits (x y : ℚ) : Type 0 where

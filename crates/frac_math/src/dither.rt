@@ -17,11 +17,14 @@ fn index(x: u32, y: u32) -> u32
     }
 }
 
-/// What the ordered dither adds to a wanted code before its floor, at the pixel of column `x` and row `y` of the whole
+/// What the ordered dither adds to a wanted code before its floor, at the pixel of column `x` and
+/// row `y` of the whole
 /// frame, both counted from 0.
 ///
-/// It repeats after 2^k pixels each way, where k is 0 to 4, and is an odd multiple of 1/(2 * 4^k), strictly between 0 and
-/// 1; at k = 0 it is 1/2 everywhere. The values are those of Bayer's index matrix as `generate_bayer_matrix` of FFmpeg's
+/// It repeats after 2^k pixels each way, where k is 0 to 4, and is an odd multiple of 1/(2 * 4^k),
+/// strictly between 0 and
+/// 1; at k = 0 it is 1/2 everywhere. The values are those of Bayer's index matrix as
+/// `generate_bayer_matrix` of FFmpeg's
 /// libswscale/format.c makes it, with the half step that centres each in its interval.
 pub fn dither_at(k: u8, x: u32, y: u32) -> Frac
     requires { k ≤ 4 }

@@ -1,4 +1,5 @@
-//! Exact fractions of 128 bits, the ordered dither, and the answer that every allocating call shares.
+//! Exact fractions of 128 bits, the ordered dither, and the answer that every allocating call
+//! shares.
 #![tactic(auto)]
 
 mod dither;

@@ -1,4 +1,5 @@
-// Values from outside: worked by hand, and at the edge of i128 by another program's exact fractions.
+// Values from outside: worked by hand, and at the edge of i128 by another program's exact
+// fractions.
 use crate::{Frac, dither_at};
 use std::cmp::Ordering;
 

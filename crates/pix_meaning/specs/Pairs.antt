@@ -11,7 +11,8 @@ use Rattle.colour_matrix.specs.declared.class.Levels.{Levels}
 use Rattle.pix_meaning.specs.declared.pair.Side.{Side}
 use Rattle.pix_meaning.specs.declared.pair.Pair.{Pair}
 
--- A pair is valid where both descriptors pass the check, both matrices are within their bounds, and the dither is 0 to 4. A matrix is three plain
+-- A pair is valid where both descriptors pass the check, both matrices are within their bounds, and the dither is 0 to 4. A matrix is three
+-- plain
 -- numbers in the code, so its bounds are a part of a valid pair.
 pub record IsValidPair (pair : Pair) : Type 0 where
   pub from : IsValid pair.from.desc
@@ -20,7 +21,8 @@ pub record IsValidPair (pair : Pair) : Type 0 where
   pub to_matrix : IsMatrix pair.to.matrix
   pub dither : pair.dither ≤ 4
 
--- A format of red, green and blue. A palette format is one too, by its entries: its own component is an index, and its flag for RGB is not set
+-- A format of red, green and blue. A palette format is one too, by its entries: its own component is an index, and its flag for RGB is not
+-- set
 -- (FFmpeg's libavutil/pixdesc.h, AV_PIX_FMT_FLAG_RGB and AV_PIX_FMT_FLAG_PAL).
 abbrev pub is_rgb : Desc → Bool
 is_rgb desc = desc.rgb || desc.palette

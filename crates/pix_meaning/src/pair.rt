@@ -13,7 +13,8 @@ pub struct Side {
     pub range: Range,
 }
 
-/// A conversion: from a side to a side, with an ordered dither over squares of 2^dither by 2^dither pixels.
+/// A conversion: from a side to a side, with an ordered dither over squares of 2^dither by 2^dither
+/// pixels.
 #[derive(Clone, Copy, Debug, PartialEq, Eq)]
 pub struct Pair {
     pub from: Side,

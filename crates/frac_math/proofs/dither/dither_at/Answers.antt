@@ -14,7 +14,12 @@ pub overflow_mul-sum : goal.overflow_mul-sum
 overflow_mul-sum c = omega (arith, small_numbers c.loop-i.i c.args.x c.args.y (omega arith))
 
 pub overflow_add-sum : goal.overflow_add-sum
-overflow_add-sum c = omega (arith, small_numbers c.loop-i.i c.args.x c.args.y (omega arith), index_most (digit c.loop-i.i c.args.x) (digit c.loop-i.i c.args.y), c.index.ensures)
+overflow_add-sum c = omega (
+  arith,
+  small_numbers c.loop-i.i c.args.x c.args.y (omega arith),
+  index_most (digit c.loop-i.i c.args.x) (digit c.loop-i.i c.args.y),
+  c.index.ensures,
+)
 
 pub overflow_mul-cells : goal.overflow_mul-cells
 overflow_mul-cells c = omega (arith, small_numbers c.loop-i.i c.args.x c.args.y (omega arith))
@@ -41,5 +46,7 @@ reduced-requires c =
 
 pub returns : goal.returns
 returns c =
-    dither_known c.reduced.result c.args.k c.loop-i.i c.args.x c.args.y c.loop-i.sum c.loop-i.cells (omega arith) c.loop-i.invariant.sum c.loop-i.invariant.cells
-    (reduced_known c.reduced.result c.from.result c.from-2.result (pos (2 * c.loop-i.sum + 1)) (2 * c.loop-i.cells) (search rules) (search rules) c.from.ensures c.from-2.ensures c.reduced.ensures)
+    dither_known c.reduced.result c.args.k c.loop-i.i c.args.x c.args.y c.loop-i.sum c.loop-i.cells
+    (omega arith) c.loop-i.invariant.sum c.loop-i.invariant.cells
+    (reduced_known c.reduced.result c.from.result c.from-2.result (pos (2 * c.loop-i.sum + 1)) (2 * c.loop-i.cells) (search rules)
+    (search rules) c.from.ensures c.from-2.ensures c.reduced.ensures)
