@@ -154,7 +154,7 @@ le_from env a b bounds h n =
     from_difference (of env a) (of env b)
     (subst (λ (z : ℚ). whole (pos 0) ≤ℚ z) (sym (ring fractions env (b ⊖ a) (gap bounds) n)) (gap_not_negative env bounds h))
 
--- the same from one l < r and others
+-- a < b where l < r is known, and b - a is r - l and what the bounds give
 pub lt_from : (env : List ℚ) (a b l r : Expr) (bounds : Bounds) → of env l <ℚ of env r → Bound env bounds
     → normal (b ⊖ a) ≡ normal ((r ⊖ l) ⊕ gap bounds) → of env a <ℚ of env b
 lt_from env a b l r bounds s h n =

@@ -43,7 +43,7 @@ sign_not_zero s m e h z = h (ap (cast_unsigned w128) (e ∙ ap int_signum z))
 pub sign_zero : (s m : ℤ) → Fits s → s ≡ int_signum m → cast_unsigned w128 s ≡ 0 → m ≡ pos 0
 sign_zero s m f e h = signum_zero m (sym e ∙ sym (to_z-of_z w128 s f) ∙ ap (cast_signed w128) h)
 
--- a result times such a part
+-- a result times a denominator with the sign
 pub number_is : (n d s x t : ℤ) (e : ℕ) → Fits n → Fits d → Fits s → n ≡ x → d ≡ pos e → s ≡ t → negsuc 0 ≤ℤ s → s ≤ℤ pos 1
     → cast_signed w128 (cast_unsigned w128 n) *ℤ cast_signed w128
     (cast_unsigned w128 (cast_signed w128 (cast_unsigned w128 d) *ℤ cast_signed w128 (cast_unsigned w128 s))) ≡ x *ℤ (pos e *ℤ t)

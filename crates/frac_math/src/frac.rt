@@ -28,7 +28,8 @@ impl Model for Frac {
 
     ghost inverse = { λ x. record { num = x.numerator; den = pos x.denominator } };
 
-    ghost inverse_ok = { λ f h. λ i. record { num = over-numerator f.num f.den h i; den = over-denominator f.num f.den h i } };
+    ghost inverse_ok = { λ f h. λ i.
+        record { num = over-numerator f.num f.den h i; den = over-denominator f.num f.den h i } };
 }
 
 // The size with the sign, where an i128 holds it.

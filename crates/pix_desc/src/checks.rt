@@ -43,7 +43,8 @@ pub fn check(desc: &Desc) -> Result<Layout, DescFault>
 
 /// Whether the flags allow the number of components.
 fn has_count(desc: &Desc) -> bool
-    ensures allowed { result ≡ is_count desc.now.palette desc.now.rgb desc.now.alpha desc.now.count }
+    ensures allowed { result
+        ≡ is_count desc.now.palette desc.now.rgb desc.now.alpha desc.now.count }
     ensures most { IsTrue result → desc.now.count ≤ 4 }
 {
     match (desc.palette, desc.rgb, desc.alpha) {
