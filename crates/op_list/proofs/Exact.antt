@@ -7,7 +7,7 @@ use Rattle.frac_math.specs.Fraction.{ℚ, ◌+ℚ◌, ◌*ℚ◌}
 use Rattle.frac_math.specs.Checked.{checked_sum, checked_product}
 use Rattle.frac_math.specs.Dither.{dither_at}
 use Rattle.op_list.specs.declared.types.Stage.{Stage}
-use Rattle.op_list.specs.declared.place.Place.{Place}
+use Rattle.op_list.specs.declared.position.PixelPosition.{PixelPosition}
 use Rattle.op_list.specs.declared.op.Op.{Op}
 use Rattle.op_list.specs.declared.op.Op.TheVariants.{Dither, Linear, Scale}
 use Rattle.op_list.specs.declared.values.Values.{Values}
@@ -53,25 +53,25 @@ checked_row-exact row values z h =
 fractions-exact : (f : ℕ → Option ℚ) (g : ℕ → ℚ) (next : Values) → ((i : ℕ) (x : ℚ) → f i ≡ Some x → g i ≡ x) → option_map Fractions (all_four f) ≡ Some next → Fractions (four g) ≡ next
 fractions-exact f g next exact h = option_map_some Fractions (all_four f) next h (λ xs is e. ap Fractions (all_four-exact f g xs exact is) ∙ e)
 
-pub checked_apply-exact : (frame : List ℕ) (place : Place) (stage : Stage) (op : Op) (values next : Values)
-    → checked_apply frame place stage op values ≡ Some next → apply frame place stage op values ≡ next
+pub checked_apply-exact : (frame : List ℕ) (position : PixelPosition) (stage : Stage) (op : Op) (values next : Values)
+    → checked_apply frame position stage op values ≡ Some next → apply frame position stage op values ≡ next
 unfolding checked_apply apply
-checked_apply-exact frame place stage (Dither k) values next h =
-    fractions-exact _ (λ i. fraction values i +ℚ dither_at k place.x place.y) next (λ i x e. checked_sum-exact _ _ x e) h
-checked_apply-exact frame place stage (Linear rows) values next h =
+checked_apply-exact frame position stage (Dither k) values next h =
+    fractions-exact _ (λ i. fraction values i +ℚ dither_at k position.x position.y) next (λ i x e. checked_sum-exact _ _ x e) h
+checked_apply-exact frame position stage (Linear rows) values next h =
     fractions-exact (λ i. checked_row (row_of rows i) values) (λ i. row_value (row_of rows i) values) next (λ i x e. checked_row-exact (row_of rows i) values x e) h
-checked_apply-exact frame place stage (Scale by) values next h =
+checked_apply-exact frame position stage (Scale by) values next h =
     fractions-exact _ (λ i. fraction values i *ℚ by) next (λ i x e. checked_product-exact _ _ x e) h
-checked_apply-exact frame place stage op values next h = same_Some _ next h
+checked_apply-exact frame position stage op values next h = same_Some _ next h
 
 -- ---- a list
-pub checked_run_from-exact : (frame : List ℕ) (place : Place) (stage : Stage) (ops : List Op) (values last : Values)
-    → checked_run_from frame place stage ops values ≡ Some last → run_from frame place stage ops values ≡ last
+pub checked_run_from-exact : (frame : List ℕ) (position : PixelPosition) (stage : Stage) (ops : List Op) (values last : Values)
+    → checked_run_from frame position stage ops values ≡ Some last → run_from frame position stage ops values ≡ last
 unfolding checked_run_from run_from
-checked_run_from-exact frame place stage [] values last h = same_Some values last h
-checked_run_from-exact frame place stage (op ∷ ops) values last h =
-    option_and_then_some _ (checked_apply frame place stage op values) last h
-    (λ next is rest. rw (checked_apply-exact frame place stage op values next is) (checked_run_from-exact frame place (stage_after stage op) ops next last rest))
+checked_run_from-exact frame position stage [] values last h = same_Some values last h
+checked_run_from-exact frame position stage (op ∷ ops) values last h =
+    option_and_then_some _ (checked_apply frame position stage op values) last h
+    (λ next is rest. rw (checked_apply-exact frame position stage op values next is) (checked_run_from-exact frame position (stage_after stage op) ops next last rest))
 
 pub checked_run-exact : (ops : List Op) (frame : List ℕ) (width rows x row y : ℕ) (elements : List ℕ)
     → checked_run ops frame width rows x row y ≡ Some elements → run ops frame width rows x row y ≡ elements
@@ -81,8 +81,8 @@ checked_run-exact ops frame width rows x row y elements h =
     (λ last is e. rw (checked_run_from-exact frame _ _ ops no_values last is) e)
 
 -- one part after the other
-pub run_from-append : (frame : List ℕ) (place : Place) (stage : Stage) (first second : List Op) (values : Values)
-    → run_from frame place stage (first ++ second) values ≡ run_from frame place (stage_from stage first) second (run_from frame place stage first values)
+pub run_from-append : (frame : List ℕ) (position : PixelPosition) (stage : Stage) (first second : List Op) (values : Values)
+    → run_from frame position stage (first ++ second) values ≡ run_from frame position (stage_from stage first) second (run_from frame position stage first values)
 unfolding run_from stage_from
-run_from-append frame place stage [] second values = refl
-run_from-append frame place stage (op ∷ first) second values = run_from-append frame place (stage_after stage op) first second (apply frame place stage op values)
+run_from-append frame position stage [] second values = refl
+run_from-append frame position stage (op ∷ first) second values = run_from-append frame position (stage_after stage op) first second (apply frame position stage op values)

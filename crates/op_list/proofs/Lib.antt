@@ -1,6 +1,6 @@
 pub mod Applied
 pub mod Elements
-pub mod Entries
+pub mod GivenEntries
 pub mod Exact
 pub mod Fields
 pub mod Fitting

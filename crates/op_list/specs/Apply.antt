@@ -4,7 +4,7 @@ use Rattle.frac_math.specs.Fraction.{ℚ, nat, ◌+ℚ◌, ◌*ℚ◌, min_ℚ, 
 use Rattle.op_list.specs.declared.types.PixType.{PixType}
 use Rattle.op_list.specs.declared.types.PixType.TheVariants.{Rat}
 use Rattle.op_list.specs.declared.types.Stage.{Stage}
-use Rattle.op_list.specs.declared.place.Place.{Place}
+use Rattle.op_list.specs.declared.position.PixelPosition.{PixelPosition}
 use Rattle.op_list.specs.declared.op.Op.{Op}
 use Rattle.op_list.specs.declared.op.Op.TheVariants.{Read, Write, SwapBytes, Unpack, Pack, Clear, LeftShift, RightShift, Swizzle, Convert, Dither, Linear, Scale, Min, Max}
 use Rattle.op_list.specs.declared.values.Values.{Values}
@@ -72,20 +72,20 @@ abbrev pub at_least : Option ℚ → ℚ → ℚ
 at_least None value = value
 at_least (Some limit) value = max_ℚ value limit
 
--- what an operation makes of four values at a place of a frame
-unfoldable pub apply : List ℕ → Place → Stage → Op → Values → Values
-apply frame place stage (Read elem planes palette) values = Numbers (read_values elem planes palette frame place)
-apply frame place stage (Write elem planes) values = Numbers (four (λ i. written planes values i))
-apply frame place stage SwapBytes values = Numbers (four (λ i. reversed_bytes (bits_at stage / 8) (number values i)))
-apply frame place stage (Unpack widths) values = Numbers (four (λ i. field widths (number values 0) i))
-apply frame place stage (Pack widths) values = Numbers (packed widths values ∷ 0 ∷ 0 ∷ 0 ∷ [])
-apply frame place stage (Clear entries) values = cleared entries values
-apply frame place stage (LeftShift n) values = Numbers (four (λ i. number values i * 2 ^ n % 2 ^ bits_at stage))
-apply frame place stage (RightShift n) values = Numbers (four (λ i. number values i / 2 ^ n))
-apply frame place stage (Swizzle from) values = swizzled from values
-apply frame place stage (Convert to expand) values = converted to expand values
-apply frame place stage (Dither k) values = Fractions (four (λ i. fraction values i +ℚ dither_at k place.x place.y))
-apply frame place stage (Linear rows) values = Fractions (four (λ i. row_value (row_of rows i) values))
-apply frame place stage (Scale by) values = Fractions (four (λ i. fraction values i *ℚ by))
-apply frame place stage (Min limits) values = Fractions (four (λ i. at_most (entry limits i) (fraction values i)))
-apply frame place stage (Max limits) values = Fractions (four (λ i. at_least (entry limits i) (fraction values i)))
+-- what an operation makes of four values at a position of a frame
+unfoldable pub apply : List ℕ → PixelPosition → Stage → Op → Values → Values
+apply frame position stage (Read elem planes palette) values = Numbers (read_values elem planes palette frame position)
+apply frame position stage (Write elem planes) values = Numbers (four (λ i. written planes values i))
+apply frame position stage SwapBytes values = Numbers (four (λ i. reversed_bytes (bits_at stage / 8) (number values i)))
+apply frame position stage (Unpack widths) values = Numbers (four (λ i. field widths (number values 0) i))
+apply frame position stage (Pack widths) values = Numbers (packed widths values ∷ 0 ∷ 0 ∷ 0 ∷ [])
+apply frame position stage (Clear entries) values = cleared entries values
+apply frame position stage (LeftShift n) values = Numbers (four (λ i. number values i * 2 ^ n % 2 ^ bits_at stage))
+apply frame position stage (RightShift n) values = Numbers (four (λ i. number values i / 2 ^ n))
+apply frame position stage (Swizzle from) values = swizzled from values
+apply frame position stage (Convert to expand) values = converted to expand values
+apply frame position stage (Dither k) values = Fractions (four (λ i. fraction values i +ℚ dither_at k position.x position.y))
+apply frame position stage (Linear rows) values = Fractions (four (λ i. row_value (row_of rows i) values))
+apply frame position stage (Scale by) values = Fractions (four (λ i. fraction values i *ℚ by))
+apply frame position stage (Min limits) values = Fractions (four (λ i. at_most (entry limits i) (fraction values i)))
+apply frame position stage (Max limits) values = Fractions (four (λ i. at_least (entry limits i) (fraction values i)))

@@ -4,7 +4,7 @@ use Rattle.std.specs.Option.{option_map, option_and_then}
 use Rattle.frac_math.specs.Fraction.{ℚ}
 use Rattle.frac_math.specs.Checked.{checked_sum, checked_product}
 use Rattle.op_list.specs.declared.types.Stage.{Stage}
-use Rattle.op_list.specs.declared.place.Place.{Place}
+use Rattle.op_list.specs.declared.position.PixelPosition.{PixelPosition}
 use Rattle.op_list.specs.declared.op.Op.{Op}
 use Rattle.op_list.specs.declared.op.Op.TheVariants.{Dither, Linear, Scale}
 use Rattle.op_list.specs.declared.values.Values.{Values}
@@ -24,8 +24,8 @@ checked_row row values =
     (option_and_then (checked_term row values 1) (checked_term row values 0 (fraction_in row 4))))
 
 -- sums and products of fractions have to fit; all else is exact
-unfoldable pub checked_apply : List ℕ → Place → Stage → Op → Values → Option Values
-checked_apply frame place stage (Dither k) values = option_map Fractions (all_four (λ i. checked_sum (fraction values i) (dither_at k place.x place.y)))
-checked_apply frame place stage (Linear rows) values = option_map Fractions (all_four (λ i. checked_row (row_of rows i) values))
-checked_apply frame place stage (Scale by) values = option_map Fractions (all_four (λ i. checked_product (fraction values i) by))
-checked_apply frame place stage op values = Some (apply frame place stage op values)
+unfoldable pub checked_apply : List ℕ → PixelPosition → Stage → Op → Values → Option Values
+checked_apply frame position stage (Dither k) values = option_map Fractions (all_four (λ i. checked_sum (fraction values i) (dither_at k position.x position.y)))
+checked_apply frame position stage (Linear rows) values = option_map Fractions (all_four (λ i. checked_row (row_of rows i) values))
+checked_apply frame position stage (Scale by) values = option_map Fractions (all_four (λ i. checked_product (fraction values i) by))
+checked_apply frame position stage op values = Some (apply frame position stage op values)

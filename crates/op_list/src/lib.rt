@@ -2,30 +2,27 @@
 #![tactic(auto)]
 
 mod apply;
-mod convert;
+mod entries;
 mod fault;
 mod fractions;
-mod laws;
+pub mod laws;
 mod list;
 mod numbers;
 mod op;
-mod place;
+mod position;
 mod read;
 mod run;
 mod store;
 #[cfg(test)]
 mod tests;
+mod type_change;
 mod types;
 mod typing;
 mod values;
 
 pub use fault::PushFault;
-pub use laws::{
-    applies_exactly, applies_where_it_fits, crosses_threads, elements_make_frame, reads_in_order,
-    runs_exactly, runs_in_parts, runs_where_it_fits,
-};
-pub use list::{MOST_OPERATIONS, OpList};
+pub use list::{MAX_OPERATIONS, OpList};
 pub use op::Op;
-pub use place::Place;
+pub use position::PixelPosition;
 pub use store::store_elements;
 pub use types::{PixType, Stage};

@@ -4,7 +4,7 @@ ghost use Rattle.op_list.specs.Run.{read_length, checked_run};
 
 use crate::fault::PushFault;
 use crate::op::Op;
-use crate::place::Place;
+use crate::position::PixelPosition;
 use crate::run::values_after;
 use crate::types::Stage;
 use frac_math::Frac;
@@ -12,7 +12,7 @@ use std::alloc::Global;
 use std::marker::Model;
 
 /// The most operations of a list.
-pub const MOST_OPERATIONS: usize = 24;
+pub const MAX_OPERATIONS: usize = 24;
 
 /// At most 24 operations that may follow one another, each with good arguments.
 #[derive(Drop)]
@@ -59,7 +59,7 @@ impl OpList {
         if !op.has_good_arguments(self.stage) {
             return Err(PushFault::BadArgument);
         }
-        if self.ops.len() >= MOST_OPERATIONS {
+        if self.ops.len() >= MAX_OPERATIONS {
             return Err(PushFault::TooLong);
         }
         let stage = op.stage_after(self.stage);
@@ -103,14 +103,14 @@ impl OpList {
         requires frame { length frame.now ≡ read_length self.now width rows }
         ensures { result ≡ checked_run self.now frame.now width rows x row y }
     {
-        let place = Place {
+        let position = PixelPosition {
             width,
             rows,
             x,
             row,
             y,
         };
-        let values = values_after(self.ops(), frame, &place)?;
+        let values = values_after(self.ops(), frame, &position)?;
         Some(values.elements())
     }
 }

@@ -1,9 +1,9 @@
 ghost use Rattle.std.specs.Prelude.{◌≡◌, ◌<◌, ◌≤◌, ◌*◌, ◌^◌, sum, IfSome, IsNone};
 ghost use Rattle.op_list.specs.Pixel.{element_in, pixel_count, pixel_number};
 
-/// The place of a pixel in a frame of `width` by `rows` pixels, which may be some rows of a larger frame.
+/// The position of a pixel in a frame of `width` by `rows` pixels, which may be some rows of a larger frame.
 #[derive(Clone, Copy, Debug)]
-pub struct Place {
+pub struct PixelPosition {
     pub width: u32,
     pub rows: u32,
     /// The column.
@@ -14,7 +14,7 @@ pub struct Place {
     pub y: u32,
 }
 
-impl Place {
+impl PixelPosition {
     // The pixels of the frame.
     pub(crate) fn pixel_count(&self) -> usize
         ensures { result ≡ pixel_count self.now }

@@ -3,7 +3,7 @@ use Rattle.std.specs.Prelude.{sum}
 use Rattle.std.proofs.lemmas.List.Sums.{sum_by-drop_more}
 use Rattle.op_list.specs.Pixel.{pixel_count}
 use Rattle.op_list.proofs.Elements.{element_within}
-use Rattle.op_list.proofs.place.Place.element_index.Goals as goal
+use Rattle.op_list.proofs.position.PixelPosition.element_index.Goals as goal
 
 pub overflow_add-result-then-rest-n : goal.overflow_add-result-then-rest-n
 overflow_add-result-then-rest-n c =
