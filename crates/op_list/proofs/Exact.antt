@@ -79,10 +79,3 @@ unfolding checked_run run
 checked_run-exact ops frame width rows x row y elements h =
     option_map_some _ (checked_run_from frame _ _ ops no_values) elements h
     (λ last is e. rw (checked_run_from-exact frame _ _ ops no_values last is) e)
-
--- one part after the other
-pub run_from-append : (frame : List ℕ) (position : PixelPosition) (stage : Stage) (first second : List Op) (values : Values)
-    → run_from frame position stage (first ++ second) values ≡ run_from frame position (stage_from stage first) second (run_from frame position stage first values)
-unfolding run_from stage_from
-run_from-append frame position stage [] second values = refl
-run_from-append frame position stage (op ∷ first) second values = run_from-append frame position (stage_after stage op) first second (apply frame position stage op values)

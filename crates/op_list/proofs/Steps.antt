@@ -21,6 +21,8 @@ use Rattle.op_list.specs.Checked.{checked_apply}
 use Rattle.op_list.specs.Run.{MayApply, MayRun, checked_run_from, checked_run, read_length}
 use Rattle.op_list.proofs.Applied.{whole_not_rational, whole_before}
 use Rattle.op_list.proofs.Exact.{checked_apply-exact}
+use Rattle.op_list.proofs.Typed.{typed_parts}
+use Rattle.op_list.proofs.Wholes.{whole_ended}
 
 -- ---- the kind of the values
 cleared_kind : (entries : List (Option ℚ)) (values : Values) → are_fractions (cleared entries values) ≡ are_fractions values
@@ -107,13 +109,6 @@ started Ended (Min limits) h = refl
 started Ended (Max limits) h = refl
 
 -- ---- one step of a run
-typed_parts : (stage : Stage) (op : Op) (ops : List Op) → are_typed stage (op ∷ ops) ≡ true → (may_follow stage op ≡ true) × (are_good stage op ≡ true) × (are_typed (stage_after stage op) ops ≡ true)
-unfolding are_typed
-typed_parts stage op ops h =
-    let p = and_parts (may_follow stage op && are_good stage op) (are_typed (stage_after stage op) ops) h in
-    let q = and_parts (may_follow stage op) (are_good stage op) p.0 in
-    (q.0, q.1, p.1)
-
 pub first_may_apply : (frame : List ℕ) (position : PixelPosition) (stage : Stage) (op : Op) (ops : List Op) (values : Values)
     → MayRun frame position stage (op ∷ ops) values → MayApply frame position stage op values
 first_may_apply frame position stage op ops values h =
@@ -141,48 +136,9 @@ last_kind frame position stage (op ∷ ops) values last h is =
     option_and_then_some _ (checked_apply frame position stage op values) last is
     (λ next first rest. last_kind frame position (stage_after stage op) ops next last (rest_may_run frame position stage op ops values next h first) rest)
 
--- ---- a list that ends with a Write
-write_ends : (stage : Stage) (op : Op) → is_write op ≡ true → stage_after stage op ≡ Ended
-unfolding stage_after
-write_ends stage (Write elem planes) h = refl
-write_ends stage (Read elem planes palette) h = cc
-write_ends stage SwapBytes h = cc
-write_ends stage (Unpack widths) h = cc
-write_ends stage (Pack widths) h = cc
-write_ends stage (Clear values) h = cc
-write_ends stage (LeftShift n) h = cc
-write_ends stage (RightShift n) h = cc
-write_ends stage (Swizzle from) h = cc
-write_ends stage (Convert to expand) h = cc
-write_ends stage (Dither k) h = cc
-write_ends stage (Linear rows) h = cc
-write_ends stage (Scale by) h = cc
-write_ends stage (Min limits) h = cc
-write_ends stage (Max limits) h = cc
-
-pub whole_ended : (stage : Stage) (ops : List Op) → ends_with_write ops ≡ true → stage_from stage ops ≡ Ended
-unfolding ends_with_write stage_from
-whole_ended stage [] h = cc
-whole_ended stage (op ∷ []) h = write_ends stage op h
-whole_ended stage (op ∷ next ∷ ops) h = whole_ended (stage_after stage op) (next ∷ ops) h
-
 -- ---- the loop over a list
 pub next_op : {A : Type 0} (ops : List A) (k : ℕ) (op : A) → k < length ops → op ≡ get_or ops k op → drop k ops ≡ op ∷ drop (k + 1) ops
 next_op ops k op within is = rw add-one (subst (λ o. drop k ops ≡ o ∷ drop (suc k) ops) (sym is) (drop-cons ops k op within))
-
-pub run-none : (frame : List ℕ) (position : PixelPosition) (stage : Stage) (op : Op) (ops : List Op) (values : Values)
-    → checked_apply frame position stage op values ≡ None → checked_run_from frame position stage (op ∷ ops) values ≡ None
-unfolding checked_run_from
-run-none frame position stage op ops values is = rw is refl
-
-pub run-some : (frame : List ℕ) (position : PixelPosition) (stage : Stage) (op : Op) (ops : List Op) (values next : Values)
-    → checked_apply frame position stage op values ≡ Some next → checked_run_from frame position stage (op ∷ ops) values ≡ checked_run_from frame position (stage_after stage op) ops next
-unfolding checked_run_from
-run-some frame position stage op ops values next is = rw is refl
-
-pub run_end : (frame : List ℕ) (position : PixelPosition) (stage : Stage) (values : Values) → checked_run_from frame position stage [] values ≡ Some values
-unfolding checked_run_from
-run_end frame position stage values = refl
 
 -- ---- a whole list
 pub whole_numbers : (ops : List Op) (frame : List ℕ) (position : PixelPosition) (last : Values) → IsOpList ops → ends_with_write ops ≡ true → position.x < position.width → position.row < position.rows

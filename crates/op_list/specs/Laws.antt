@@ -30,11 +30,6 @@ abbrev pub RunsWhereItFits : Type 0
 RunsWhereItFits = (frame : List ℕ) (position : PixelPosition) (stage : Stage) (ops : List Op) (values : Values)
     → StepsFit frame position stage ops values → checked_run_from frame position stage ops values ≡ Some (run_from frame position stage ops values)
 
--- a list runs one part after the other
-abbrev pub RunsInParts : Type 0
-RunsInParts = (frame : List ℕ) (position : PixelPosition) (stage : Stage) (first second : List Op) (values : Values)
-    → run_from frame position stage (first ++ second) values ≡ run_from frame position (stage_from stage first) second (run_from frame position stage first values)
-
 -- element e of a pixel in plane p comes after those of the pixel in the planes before: the planes stand one after the other, and in each the pixels
 abbrev pub ReadsInOrder : Type 0
 ReadsInOrder = (pixels pixel : ℕ) (planes : List ℕ) (p e : ℕ) → e < slice_index planes p

@@ -1,6 +1,6 @@
-ghost use Rattle.std.specs.Prelude.{◌≡◌, ◌<◌, ◌≤◌, ◌↔◌, true, false, IsTrue, OnOk, OnErr, IfErr, [], ◌∷◌, ◌++◌, length};
+ghost use Rattle.std.specs.Prelude.{◌≡◌, ◌<◌, ◌≤◌, ◌↔◌, true, false, IsTrue, OnOk, OnErr, IfErr, IfSome, [], ◌∷◌, ◌++◌, length};
 ghost use Rattle.op_list.specs.Typing.{may_follow, are_good, stage_of, IsOpList, ends_with_write};
-ghost use Rattle.op_list.specs.Run.{read_length, checked_run};
+ghost use Rattle.op_list.specs.Run.{read_length, run, checked_run};
 
 use crate::fault::PushFault;
 use crate::op::Op;
@@ -101,7 +101,8 @@ impl OpList {
         requires column { x < width }
         requires row { row < rows }
         requires frame { length frame.now ≡ read_length self.now width rows }
-        ensures { result ≡ checked_run self.now frame.now width rows x row y }
+        ensures checked { result ≡ checked_run self.now frame.now width rows x row y }
+        ensures exact { IfSome result (λ elements. elements ≡ run self.now frame.now width rows x row y) }
     {
         let position = PixelPosition {
             width,

@@ -47,7 +47,18 @@ impl Op {
             Op::Read { elem, .. } => Stage::Typed(*elem),
             Op::Write { .. } => Stage::Ended,
             Op::Convert { to, .. } => Stage::Typed(*to),
-            _ => stage,
+            Op::SwapBytes
+            | Op::Unpack { .. }
+            | Op::Pack { .. }
+            | Op::Clear { .. }
+            | Op::LeftShift { .. }
+            | Op::RightShift { .. }
+            | Op::Swizzle { .. }
+            | Op::Dither { .. }
+            | Op::Linear { .. }
+            | Op::Scale { .. }
+            | Op::Min { .. }
+            | Op::Max { .. } => stage,
         }
     }
 
@@ -70,7 +81,11 @@ impl Op {
             Op::Convert { to, expand } => !*expand
                 || (stage.has_type(PixType::U8) && *to == PixType::U16),
             Op::Dither { k } => *k <= 4,
-            _ => true,
+            Op::SwapBytes
+            | Op::Linear { .. }
+            | Op::Scale { .. }
+            | Op::Min { .. }
+            | Op::Max { .. } => true,
         }
     }
 }

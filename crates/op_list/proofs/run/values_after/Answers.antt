@@ -2,7 +2,8 @@ use Rattle.std.proofs.Common.{◌≡◌, ◌∙◌, sym, drop, ◌+◌}
 use Rattle.std.specs.Prelude.{Some, None}
 use Rattle.std.proofs.lemmas.List.{drop_all}
 use Rattle.op_list.specs.Checked.{checked_apply}
-use Rattle.op_list.proofs.Steps.{next_op, first_may_apply, rest_may_run, run-none, run-some, run_end}
+use Rattle.op_list.proofs.Steps.{next_op, first_may_apply, rest_may_run}
+use Rattle.op_list.proofs.Runs.{run-none, run-some, run_end}
 use Rattle.op_list.proofs.run.values_after.Goals as goal
 
 pub apply-requires : goal.apply-requires
