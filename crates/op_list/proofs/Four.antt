@@ -40,14 +40,19 @@ four_hold test each =
     (and_from (test 3) true (each 3 (omega arith)) refl)))
 
 pub sum_four : (ns : List ℕ) → length ns ≡ 4 → sum ns ≡ get_or ns 0 0 + get_or ns 1 0 + get_or ns 2 0 + get_or ns 3 0
-sum_four ns size = from_four (λ xs. sum xs ≡ get_or xs 0 0 + get_or xs 1 0 + get_or xs 2 0 + get_or xs 3 0) ns size (λ a b c d. let e : 0 + a + b + c + d ≡ a + b + c + d = omega arith in e)
+sum_four ns size =
+    from_four (λ xs. sum xs ≡ get_or xs 0 0 + get_or xs 1 0 + get_or xs 2 0 + get_or xs 3 0) ns size
+    (λ a b c d. let e : 0 + a + b + c + d ≡ a + b + c + d = omega arith in e)
 
 -- the bits below each field
 pub bits_below_first : (ns : List ℕ) → length ns ≡ 4 → bits_below ns 0 ≡ get_or ns 3 0 + get_or ns 2 0 + get_or ns 1 0
-bits_below_first ns size = from_four (λ xs. bits_below xs 0 ≡ get_or xs 3 0 + get_or xs 2 0 + get_or xs 1 0) ns size (λ a b c d. let e : 0 + b + c + d ≡ d + c + b = omega arith in e)
+bits_below_first ns size =
+    from_four (λ xs. bits_below xs 0 ≡ get_or xs 3 0 + get_or xs 2 0 + get_or xs 1 0) ns size
+    (λ a b c d. let e : 0 + b + c + d ≡ d + c + b = omega arith in e)
 
 pub bits_below_second : (ns : List ℕ) → length ns ≡ 4 → bits_below ns 1 ≡ get_or ns 3 0 + get_or ns 2 0
-bits_below_second ns size = from_four (λ xs. bits_below xs 1 ≡ get_or xs 3 0 + get_or xs 2 0) ns size (λ a b c d. let e : 0 + c + d ≡ d + c = omega arith in e)
+bits_below_second ns size =
+    from_four (λ xs. bits_below xs 1 ≡ get_or xs 3 0 + get_or xs 2 0) ns size (λ a b c d. let e : 0 + c + d ≡ d + c = omega arith in e)
 
 pub bits_below_third : (ns : List ℕ) → length ns ≡ 4 → bits_below ns 2 ≡ get_or ns 3 0
 bits_below_third ns size = from_four (λ xs. bits_below xs 2 ≡ get_or xs 3 0) ns size (λ a b c d. let e : 0 + d ≡ d = omega arith in e)

@@ -9,6 +9,7 @@ pub mod Indices
 pub mod Ordered
 pub mod ReversedBytes
 pub mod Runs
+pub mod Slices
 pub mod Steps
 pub mod Stored
 pub mod Typed

@@ -14,5 +14,9 @@ power_of_bytes (suc count) =
 pub reversed_bytes-below : (count n : ℕ) → reversed_bytes count n < 256 ^ count
 reversed_bytes-below zero n = omega arith
 reversed_bytes-below (suc count) n =
-    omega
-    (arith, pow-suc 256 count, mul-add-lt (n % 256) (256 ^ count) (reversed_bytes count (n / 256)) 256 (omega arith) (reversed_bytes-below count (n / 256)))
+    omega (
+      arith,
+      pow-suc 256 count,
+      mul-add-lt (n % 256) (256 ^ count) (reversed_bytes count (n / 256)) 256 (omega arith)
+          (reversed_bytes-below count (n / 256)),
+    )

@@ -7,7 +7,8 @@ use Rattle.std.proofs.lemmas.Bool.{and_parts}
 use Rattle.op_list.specs.declared.types.Stage.{Stage}
 use Rattle.op_list.specs.declared.position.PixelPosition.{PixelPosition}
 use Rattle.op_list.specs.declared.op.Op.{Op}
-use Rattle.op_list.specs.declared.op.Op.TheVariants.{Read, Write, SwapBytes, Unpack, Pack, Clear, LeftShift, RightShift, Swizzle, Convert, Dither, Linear, Scale, Min, Max}
+use Rattle.op_list.specs.declared.op.Op.TheVariants.{Read, Write, SwapBytes, Unpack, Pack, Clear, LeftShift, RightShift, Swizzle, Convert}
+use Rattle.op_list.specs.declared.op.Op.TheVariants.{Dither, Linear, Scale, Min, Max}
 use Rattle.op_list.specs.declared.values.Values.{Values}
 use Rattle.op_list.specs.Typing.{stage_after, stage_from}
 use Rattle.op_list.specs.Apply.{apply}
@@ -17,7 +18,8 @@ use Rattle.op_list.proofs.Typed.{stage_from-append}
 
 -- ---- the exact run
 pub run_from-cons : (frame : List ℕ) (position : PixelPosition) (stage : Stage) (op : Op) (ops : List Op) (values : Values)
-    → run_from frame position stage (op ∷ ops) values ≡ run_from frame position (stage_after stage op) ops (apply frame position stage op values)
+    → run_from frame position stage (op ∷ ops) values
+    ≡ run_from frame position (stage_after stage op) ops (apply frame position stage op values)
 unfolding run_from
 run_from-cons frame position stage op ops values = refl
 
@@ -36,17 +38,21 @@ pub run_from-three : (frame : List ℕ) (position : PixelPosition) (stage : Stag
     (run_from frame position (stage_from stage first) second (run_from frame position stage first values))
 run_from-three frame position stage first second third values =
     run_from-append frame position stage (first ++ second) third values
-    ∙ ap (λ s. run_from frame position s third (run_from frame position stage (first ++ second) values)) (stage_from-append stage first second)
-    ∙ ap (run_from frame position (stage_from (stage_from stage first) second) third) (run_from-append frame position stage first second values)
+    ∙ ap (λ s. run_from frame position s third (run_from frame position stage (first ++ second) values))
+    (stage_from-append stage first second)
+    ∙ ap (run_from frame position (stage_from (stage_from stage first) second) third)
+    (run_from-append frame position stage first second values)
 
 -- ---- the checked run
-pub run_end : (frame : List ℕ) (position : PixelPosition) (stage : Stage) (values : Values) → checked_run_from frame position stage [] values ≡ Some values
+pub run_end : (frame : List ℕ) (position : PixelPosition) (stage : Stage) (values : Values)
+    → checked_run_from frame position stage [] values ≡ Some values
 unfolding checked_run_from
 run_end frame position stage values = refl
 
 pub checked_run_from-cons : (frame : List ℕ) (position : PixelPosition) (stage : Stage) (op : Op) (ops : List Op) (values : Values)
     → checked_run_from frame position stage (op ∷ ops) values
-    ≡ option_and_then (λ next. checked_run_from frame position (stage_after stage op) ops next) (checked_apply frame position stage op values)
+    ≡ option_and_then (λ next. checked_run_from frame position (stage_after stage op) ops next)
+    (checked_apply frame position stage op values)
 unfolding checked_run_from
 checked_run_from-cons frame position stage op ops values = refl
 
@@ -63,14 +69,16 @@ run-some frame position stage op ops values next is = rw is refl
 
 pub checked_run_from-append : (frame : List ℕ) (position : PixelPosition) (stage : Stage) (front rest : List Op) (values : Values)
     → checked_run_from frame position stage (front ++ rest) values
-    ≡ option_and_then (λ next. checked_run_from frame position (stage_from stage front) rest next) (checked_run_from frame position stage front values)
+    ≡ option_and_then (λ next. checked_run_from frame position (stage_from stage front) rest next)
+    (checked_run_from frame position stage front values)
 unfolding checked_run_from stage_from
 checked_run_from-append frame position stage [] rest values = refl
 checked_run_from-append frame position stage (op ∷ front) rest values =
     after_both (checked_apply frame position stage op values) _ _ _
     (λ next. checked_run_from-append frame position (stage_after stage op) front rest next)
   where
-    after_both : {A B C : Type 0} (o : Option A) (f : A → Option C) (g : A → Option B) (h : B → Option C) → ((x : A) → f x ≡ option_and_then h (g x))
+    after_both : {A B C : Type 0} (o : Option A) (f : A → Option C) (g : A → Option B) (h : B → Option C)
+        → ((x : A) → f x ≡ option_and_then h (g x))
         → option_and_then f o ≡ option_and_then h (option_and_then g o)
     after_both None f g h e = refl
     after_both (Some x) f g h e = e x
@@ -113,11 +121,13 @@ unformed_apply frame position stage (Scale by) values h = absurd (cc)
 unformed_apply frame position stage op values h = refl
 
 -- their checked run has an answer, the exact one
-pub unformed_run : (frame : List ℕ) (position : PixelPosition) (stage : Stage) (ops : List Op) (values : Values) → list_all forms_nothing ops ≡ true
+pub unformed_run : (frame : List ℕ) (position : PixelPosition) (stage : Stage) (ops : List Op) (values : Values)
+    → list_all forms_nothing ops ≡ true
     → checked_run_from frame position stage ops values ≡ Some (run_from frame position stage ops values)
 unfolding checked_run_from run_from
 unformed_run frame position stage [] values h = refl
 unformed_run frame position stage (op ∷ ops) values h =
     let p = and_parts (forms_nothing op) (list_all forms_nothing ops) h in
-    ap (λ o. option_and_then (λ next. checked_run_from frame position (stage_after stage op) ops next) o) (unformed_apply frame position stage op values p.0)
+    ap (λ o. option_and_then (λ next. checked_run_from frame position (stage_after stage op) ops next) o)
+    (unformed_apply frame position stage op values p.0)
     ∙ unformed_run frame position (stage_after stage op) ops (apply frame position stage op values) p.1

@@ -1,5 +1,6 @@
 -- Elements of frames: what they are read from, when two frames have the same, and that they determine the frame.
-use Rattle.std.proofs.Common.{◌≡◌, ◌≢◌, ℕ, zero, suc, ◌+◌, ◌*◌, ◌/◌, ◌%◌, ◌^◌, ◌<◌, ◌≤◌, ⊎_elim, List, length, slice_index, refl, sym, ap, ◌∙◌, arith, subst}
+use Rattle.std.proofs.Common.{◌≡◌, ◌≢◌, ℕ, zero, suc, ◌+◌, ◌*◌, ◌/◌, ◌%◌, ◌^◌, ◌<◌, ◌≤◌, ⊎_elim, List, length, slice_index, refl, sym, ap}
+use Rattle.std.proofs.Common.{◌∙◌, arith, subst}
 use Rattle.std.specs.Prelude.{sum, All}
 use Rattle.std.proofs.lemmas.Bool.{cases_lt, cond_below, cond_above}
 use Rattle.std.proofs.lemmas.Grind.{same_number_lists}
@@ -24,46 +25,56 @@ element_of-is elem planes frame position i within =
     sym (cond_below i (sum planes) (element elem frame (element_in (pixel_count position) (pixel_number position) 0 planes i)) 0 within)
 
 -- and 0 past those of the pixel
-pub element_of-past : (elem : PixType) (planes frame : List ℕ) (position : PixelPosition) (i : ℕ) → sum planes ≤ i → element_of elem planes frame position i ≡ 0
+pub element_of-past : (elem : PixType) (planes frame : List ℕ) (position : PixelPosition) (i : ℕ) → sum planes ≤ i
+    → element_of elem planes frame position i ≡ 0
 unfolding element_of
 element_of-past elem planes frame position i past =
-    sym (cond_above i (sum planes) (element elem frame (element_in (pixel_count position) (pixel_number position) 0 planes i)) 0 0 past refl)
+    sym (cond_above i (sum planes)
+    (element elem frame (element_in (pixel_count position) (pixel_number position) 0 planes i)) 0 0 past refl)
 
 -- an element of a pixel is kept where only element k of the frame is changed, and that is another one
 pub element_kept : (elem : PixType) (planes old new : List ℕ) (position : PixelPosition) (k j : ℕ)
     → ((n : ℕ) → n ≢ k → element elem new n ≡ element elem old n)
-    → (j < sum planes → element_in (pixel_count position) (pixel_number position) 0 planes j ≢ k) → element_of elem planes new position j ≡ element_of elem planes old position j
+    → (j < sum planes → element_in (pixel_count position) (pixel_number position) 0 planes j ≢ k)
+    → element_of elem planes new position j ≡ element_of elem planes old position j
 element_kept elem planes old new position k j kept differs =
     ⊎_elim
     (λ (here : j < sum planes).
-    element_of-is elem planes new position j here ∙ kept (element_in (pixel_count position) (pixel_number position) 0 planes j) (differs here)
+    element_of-is elem planes new position j here
+    ∙ kept (element_in (pixel_count position) (pixel_number position) 0 planes j) (differs here)
     ∙ sym (element_of-is elem planes old position j here))
     (λ (past : sum planes ≤ j). element_of-past elem planes new position j past ∙ sym (element_of-past elem planes old position j past))
     (cases_lt j (sum planes))
 
-pub number_below : (position : PixelPosition) → position.x < position.width → position.row < position.rows → pixel_number position < pixel_count position
+pub number_below : (position : PixelPosition) → position.x < position.width → position.row < position.rows
+    → pixel_number position < pixel_count position
 number_below position column row = mul-add-lt position.row position.width position.x position.rows row column
 
 -- an element of a pixel lies in the frame
-pub index_ends : (elem : PixType) (planes frame : List ℕ) (position : PixelPosition) (i : ℕ) → HasElements elem planes frame position → i < sum planes
+pub index_ends : (elem : PixType) (planes frame : List ℕ) (position : PixelPosition) (i : ℕ) → HasElements elem planes frame position
+    → i < sum planes
     → (element_in (pixel_count position) (pixel_number position) 0 planes i + 1) * bytes elem ≤ length frame
 index_ends elem planes frame position i h within =
     let index = element_in (pixel_count position) (pixel_number position) 0 planes i in
-    let below : index < pixel_count position * (0 + sum planes) = index_below (pixel_count position) (pixel_number position) 0 planes i (number_below position h.column h.row) within in
+    let below : index < pixel_count position * (0 + sum planes) =
+    index_below (pixel_count position) (pixel_number position) 0 planes i (number_below position h.column h.row) within in
     element_ends elem planes frame position index h (omega (arith, below))
 
 -- another element of the pixel is kept
-pub other_element_kept : (elem : PixType) (planes old new : List ℕ) (position : PixelPosition) (i j : ℕ) → position.x < position.width → position.row < position.rows → i < sum planes → j ≢ i
+pub other_element_kept : (elem : PixType) (planes old new : List ℕ) (position : PixelPosition) (i j : ℕ) → position.x < position.width
+    → position.row < position.rows → i < sum planes → j ≢ i
     → ((n : ℕ) → n ≢ element_in (pixel_count position) (pixel_number position) 0 planes i → element elem new n ≡ element elem old n)
     → element_of elem planes new position j ≡ element_of elem planes old position j
 other_element_kept elem planes old new position i j column row within differs kept =
     let pixels = pixel_count position in
     let pixel = pixel_number position in
     element_kept elem planes old new position (element_in pixels pixel 0 planes i) j kept
-    (λ here same. differs (same_index pixels pixel pixel 0 planes j i (number_below position column row) (number_below position column row) here within same).1)
+    (λ here same. differs
+    (same_index pixels pixel pixel 0 planes j i (number_below position column row) (number_below position column row) here within same).1)
 
 -- and so are those of another pixel
-pub other_pixel_kept : (elem : PixType) (planes old new : List ℕ) (position other : PixelPosition) (i j : ℕ) → position.x < position.width → position.row < position.rows → i < sum planes → IsOtherPixel position other
+pub other_pixel_kept : (elem : PixType) (planes old new : List ℕ) (position other : PixelPosition) (i j : ℕ) → position.x < position.width
+    → position.row < position.rows → i < sum planes → IsOtherPixel position other
     → ((n : ℕ) → n ≢ element_in (pixel_count position) (pixel_number position) 0 planes i → element elem new n ≡ element elem old n)
     → element_of elem planes new other j ≡ element_of elem planes old other j
 other_pixel_kept elem planes old new position other i j column row within is kept =
@@ -91,13 +102,21 @@ pub element_below : (elem : PixType) (frame : List ℕ) (k : ℕ) → All (λ by
 element_below U8 frame k all = omega (arith, byte_below frame (k * 1) all)
 element_below U16 frame k all = omega (arith, byte_below frame (k * 2) all, byte_below frame (k * 2 + 1) all)
 element_below U32 frame k all =
-    omega (arith, byte_below frame (k * 4) all, byte_below frame (k * 4 + 1) all, byte_below frame (k * 4 + 1 + 1) all, byte_below frame (k * 4 + 1 + 1 + 1) all)
+    omega (
+      arith,
+      byte_below frame (k * 4) all,
+      byte_below frame (k * 4 + 1) all,
+      byte_below frame (k * 4 + 1 + 1) all,
+      byte_below frame
+          (k * 4 + 1 + 1 + 1) all,
+    )
 element_below Rat frame k all = omega arith
 
 -- ---- elements determine a frame
 
 -- equal numbers have equal bytes
-same_bytes : (count : ℕ) (a b : List ℕ) (at t : ℕ) → All (λ byte. byte < 256) a → All (λ byte. byte < 256) b → number_at count a at ≡ number_at count b at
+same_bytes : (count : ℕ) (a b : List ℕ) (at t : ℕ) → All (λ byte. byte < 256) a → All (λ byte. byte < 256) b
+    → number_at count a at ≡ number_at count b at
     → t < count → slice_index a (at + t) ≡ slice_index b (at + t)
 same_bytes zero a b at t small low same within = absurd (omega (arith, within))
 same_bytes (suc count) a b at zero small low same within =
@@ -123,7 +142,8 @@ same_element elem planes width rows a b k below same =
     let index : element_in (width * rows) (row * width + x) 0 planes found.1 ≡ k =
     ap (λ t. element_in (width * rows) t 0 planes found.1) number ∙ found.2.index ∙ omega arith in
     ap (element elem a) (sym index) ∙ sym (element_of-is elem planes a position found.1 found.2.within)
-    ∙ same x row 0 found.1 (mod-lt pixel wide) ((div-lt_iff_lt-mul wide).1 (omega (arith, found.2.inside))) (omega (arith, number, found.2.inside))
+    ∙ same x row 0 found.1 (mod-lt pixel wide) ((div-lt_iff_lt-mul wide).1 (omega (arith, found.2.inside)))
+    (omega (arith, number, found.2.inside))
     ∙ element_of-is elem planes b position found.1 found.2.within ∙ ap (element elem b) index
 
 pub elements_make_frame : ElementsMakeFrame
@@ -136,4 +156,5 @@ elements_make_frame elem planes width rows a b whole size_a size_b small low sam
     let below : k < width * rows * sum planes = (div-lt_iff_lt-mul some).1 (omega (arith, within, size_a)) in
     let number : k * size + t % size ≡ t = div-add-mod' t size in
     ap (slice_index a) (sym number)
-    ∙ same_bytes size a b (k * size) (t % size) small low (same_element elem planes width rows a b k below same) (mod-lt t some) ∙ ap (slice_index b) number)
+    ∙ same_bytes size a b (k * size) (t % size) small low (same_element elem planes width rows a b k below same) (mod-lt t some)
+    ∙ ap (slice_index b) number)

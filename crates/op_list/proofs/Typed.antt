@@ -1,5 +1,6 @@
 -- The typing of a list: an operation in front or at the end, one part behind another, and the fronts of a list.
-use Rattle.std.proofs.Common.{◌≡◌, ℕ, ◌+◌, ◌<◌, ◌≤◌, Bool, true, false, ◌&&◌, if◌then◌else◌, List, [], ◌∷◌, ◌++◌, length, length-append, subst, refl, sym, ◌∙◌, ap, arith}
+use Rattle.std.proofs.Common.{◌≡◌, ℕ, ◌+◌, ◌<◌, ◌≤◌, Bool, true, false, ◌&&◌, if◌then◌else◌, List, [], ◌∷◌, ◌++◌, length, length-append}
+use Rattle.std.proofs.Common.{subst, refl, sym, ◌∙◌, ap, arith}
 use Rattle.std.proofs.lemmas.Bool.{and_parts, and_from}
 use Rattle.op_list.specs.declared.types.Stage.{Stage}
 use Rattle.op_list.specs.declared.types.Stage.TheVariants.{Start}
@@ -41,7 +42,8 @@ and_assoc true b c = refl
 and_assoc false b c = refl
 
 -- the typing of two parts
-pub typed_both : (stage : Stage) (front rest : List Op) → are_typed stage (front ++ rest) ≡ (are_typed stage front && are_typed (stage_from stage front) rest)
+pub typed_both : (stage : Stage) (front rest : List Op)
+    → are_typed stage (front ++ rest) ≡ (are_typed stage front && are_typed (stage_from stage front) rest)
 unfolding are_typed stage_from
 typed_both stage [] rest = refl
 typed_both stage (op ∷ front) rest =
@@ -49,7 +51,8 @@ typed_both stage (op ∷ front) rest =
     let next = stage_after stage op in
     ap (λ b. first && b) (typed_both next front rest) ∙ and_assoc first (are_typed next front) (are_typed (stage_from next front) rest)
 
-pub are_typed-append : (stage : Stage) (front rest : List Op) → are_typed stage front ≡ true → are_typed (stage_from stage front) rest ≡ true
+pub are_typed-append : (stage : Stage) (front rest : List Op) → are_typed stage front ≡ true
+    → are_typed (stage_from stage front) rest ≡ true
     → are_typed stage (front ++ rest) ≡ true
 are_typed-append stage front rest first second =
     typed_both stage front rest ∙ and_from (are_typed stage front) (are_typed (stage_from stage front) rest) first second
@@ -61,7 +64,8 @@ typed_fronts stage front rest typed =
 
 -- ---- lists of at most 24 operations
 pub front_is_list : (front rest : List Op) → IsOpList (front ++ rest) → IsOpList front
-front_is_list front rest is = record { typed = (typed_fronts Start front rest is.typed).0; size = omega (arith, is.size, length-append front rest) }
+front_is_list front rest is =
+    record { typed = (typed_fronts Start front rest is.typed).0; size = omega (arith, is.size, length-append front rest) }
 
 -- An operation is taken at the end of a list.
 pub record IsTaken (ops : List Op) (op : Op) : Type 0 where
@@ -74,11 +78,14 @@ last_is_taken ops op is =
     let last = typed_parts (stage_of ops) op [] (typed_fronts Start ops (op ∷ []) is.typed).1 in
     record { follows = last.0; good = last.1; room = omega (arith, is.size, length-append ops (op ∷ [])) }
 
-pub pushed : (ops : List Op) (stage : Stage) (op : Op) → LeavesStage ops stage → may_follow stage op ≡ true → are_good stage op ≡ true → length ops < 24
+pub pushed : (ops : List Op) (stage : Stage) (op : Op) → LeavesStage ops stage → may_follow stage op ≡ true → are_good stage op ≡ true
+    → length ops < 24
     → LeavesStage (ops ++ op ∷ []) (stage_after stage op)
 pushed ops stage op h follows good room = record {
   sound = record {
-    typed = are_typed-append Start ops (op ∷ []) h.sound.typed (rw (← h.last) (typed_from stage op [] follows good (typed_none (stage_after stage op))));
+    typed =
+        are_typed-append Start ops (op ∷ []) h.sound.typed
+        (rw (← h.last) (typed_from stage op [] follows good (typed_none (stage_after stage op))));
     size = omega (arith, length-append ops (op ∷ []));
   };
   last = sym (stage_from-append Start ops (op ∷ []) ∙ (rw (← h.last) (stage_from_one stage op)));
@@ -111,7 +118,8 @@ pub one_more_if : (needed : Bool) (stage last : Stage) (op : Op) (ops : List Op)
     → are_good stage op ≡ true → stage_after stage op ≡ stage → IsTyped stage ops last most
     → IsTyped stage ((if needed then op ∷ [] else []) ++ ops) last (most + 1)
 one_more_if true stage last op ops most follows good after rest = one_more stage stage last op ops most (follows refl) good after rest
-one_more_if false stage last op ops most follows good after rest = record { typed = rest.typed; leaves = rest.leaves; size = omega (arith, rest.size) }
+one_more_if false stage last op ops most follows good after rest =
+    record { typed = rest.typed; leaves = rest.leaves; size = omega (arith, rest.size) }
 
 -- one list behind another
 pub both_parts : (stage middle last : Stage) (first second : List Op) (most more : ℕ) → IsTyped stage first middle most

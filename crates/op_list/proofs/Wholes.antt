@@ -5,7 +5,8 @@ use Rattle.std.proofs.lemmas.Bool.{and_parts, both_ways}
 use Rattle.op_list.specs.declared.types.Stage.{Stage}
 use Rattle.op_list.specs.declared.types.Stage.TheVariants.{Ended}
 use Rattle.op_list.specs.declared.op.Op.{Op}
-use Rattle.op_list.specs.declared.op.Op.TheVariants.{Read, Write, SwapBytes, Unpack, Pack, Clear, LeftShift, RightShift, Swizzle, Convert, Dither, Linear, Scale, Min, Max}
+use Rattle.op_list.specs.declared.op.Op.TheVariants.{Read, Write, SwapBytes, Unpack, Pack, Clear, LeftShift, RightShift, Swizzle, Convert}
+use Rattle.op_list.specs.declared.op.Op.TheVariants.{Dither, Linear, Scale, Min, Max}
 use Rattle.op_list.specs.Typing.{may_follow, stage_after, stage_from, are_typed, is_write, ends_with_write}
 use Rattle.op_list.proofs.Typed.{typed_parts}
 
@@ -48,10 +49,12 @@ pub before_other : (stage : Stage) (op next : Op) (ops : List Op) → are_typed 
 before_other stage op next ops h =
     let t = typed_parts stage op (next ∷ ops) h in
     let u = typed_parts (stage_after stage op) next ops t.2 in
-    not_write (is_write op) (λ w. both_ways (may_follow Ended next) (ended next) (sym (ap (λ s. may_follow s next) (write_ends stage op w)) ∙ u.0))
+    not_write (is_write op)
+    (λ w. both_ways (may_follow Ended next) (ended next) (sym (ap (λ s. may_follow s next) (write_ends stage op w)) ∙ u.0))
 
 -- ---- the last operation
-pub ends_with_write-append : (front : List Op) (op : Op) (rest : List Op) → ends_with_write (front ++ op ∷ rest) ≡ ends_with_write (op ∷ rest)
+pub ends_with_write-append : (front : List Op) (op : Op) (rest : List Op)
+    → ends_with_write (front ++ op ∷ rest) ≡ ends_with_write (op ∷ rest)
 unfolding ends_with_write
 ends_with_write-append [] op rest = refl
 ends_with_write-append (first ∷ []) op rest = refl
@@ -70,7 +73,8 @@ last_before op [] h = absurd (cc)
 last_before op (next ∷ ops) h = h
 
 -- behind operations of which none is a Write
-pub last_behind_all : (front rest : List Op) → list_all (λ op. not (is_write op)) front ≡ true → ends_with_write (front ++ rest) ≡ true → ends_with_write rest ≡ true
+pub last_behind_all : (front rest : List Op) → list_all (λ op. not (is_write op)) front ≡ true → ends_with_write (front ++ rest) ≡ true
+    → ends_with_write rest ≡ true
 last_behind_all [] rest inner h = h
 last_behind_all (op ∷ front) rest inner h =
     let p = and_parts (not (is_write op)) (list_all (λ o. not (is_write o)) front) inner in

@@ -1,12 +1,14 @@
 -- The exact meaning of an operation, over whole numbers and fractions of any size.
-use Rattle.std.specs.Prelude.{ℕ, ◌+◌, ◌*◌, ◌/◌, ◌%◌, ◌^◌, Bool, if◌then◌else◌, nat_lt, List, [], ◌∷◌, sum, slice_index, slice_index_or, Option, Some, None, unsigned_abs}
+use Rattle.std.specs.Prelude.{ℕ, ◌+◌, ◌*◌, ◌/◌, ◌%◌, ◌^◌, Bool, if◌then◌else◌, nat_lt, List, [], ◌∷◌, sum, slice_index, slice_index_or}
+use Rattle.std.specs.Prelude.{Option, Some, None, unsigned_abs}
 use Rattle.frac_math.specs.Fraction.{ℚ, nat, ◌+ℚ◌, ◌*ℚ◌, min_ℚ, max_ℚ, floor}
 use Rattle.op_list.specs.declared.types.PixType.{PixType}
 use Rattle.op_list.specs.declared.types.PixType.TheVariants.{Rat}
 use Rattle.op_list.specs.declared.types.Stage.{Stage}
 use Rattle.op_list.specs.declared.position.PixelPosition.{PixelPosition}
 use Rattle.op_list.specs.declared.op.Op.{Op}
-use Rattle.op_list.specs.declared.op.Op.TheVariants.{Read, Write, SwapBytes, Unpack, Pack, Clear, LeftShift, RightShift, Swizzle, Convert, Dither, Linear, Scale, Min, Max}
+use Rattle.op_list.specs.declared.op.Op.TheVariants.{Read, Write, SwapBytes, Unpack, Pack, Clear, LeftShift, RightShift, Swizzle, Convert}
+use Rattle.op_list.specs.declared.op.Op.TheVariants.{Dither, Linear, Scale, Min, Max}
 use Rattle.op_list.specs.declared.values.Values.{Values}
 use Rattle.op_list.specs.declared.values.Values.TheVariants.{Numbers, Fractions}
 use Rattle.op_list.specs.Types.{bits, bits_at}
@@ -22,7 +24,8 @@ written planes values i = if nat_lt i (sum planes) then number values i else 0
 -- the values as the fields of one number
 abbrev pub packed : List ℕ → Values → ℕ
 packed widths values =
-    placed widths (number values 0) 0 + placed widths (number values 1) 1 + placed widths (number values 2) 2 + placed widths (number values 3) 3
+    placed widths (number values 0) 0 + placed widths (number values 1) 1 + placed widths (number values 2) 2 + placed widths
+    (number values 3) 3
 
 -- the entry where one is given, else the value
 abbrev pub cleared_number : Option ℚ → ℕ → ℕ

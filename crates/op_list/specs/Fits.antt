@@ -6,7 +6,8 @@ use Rattle.frac_math.specs.Dither.{dither_at}
 use Rattle.op_list.specs.declared.types.Stage.{Stage}
 use Rattle.op_list.specs.declared.position.PixelPosition.{PixelPosition}
 use Rattle.op_list.specs.declared.op.Op.{Op}
-use Rattle.op_list.specs.declared.op.Op.TheVariants.{Read, Write, SwapBytes, Unpack, Pack, Clear, LeftShift, RightShift, Swizzle, Convert, Dither, Linear, Scale, Min, Max}
+use Rattle.op_list.specs.declared.op.Op.TheVariants.{Read, Write, SwapBytes, Unpack, Pack, Clear, LeftShift, RightShift, Swizzle, Convert}
+use Rattle.op_list.specs.declared.op.Op.TheVariants.{Dither, Linear, Scale, Min, Max}
 use Rattle.op_list.specs.declared.values.Values.{Values}
 use Rattle.op_list.specs.Values.{fraction, fraction_in}
 use Rattle.op_list.specs.Typing.{stage_after}
@@ -44,4 +45,5 @@ StepFits position (Max limits) values = Unit {0}
 -- the steps of some operations, one after the other
 abbrev pub StepsFit : List ℕ → PixelPosition → Stage → List Op → Values → Type 0
 StepsFit frame position stage [] values = Unit {0}
-StepsFit frame position stage (op ∷ ops) values = StepFits position op values × StepsFit frame position (stage_after stage op) ops (apply frame position stage op values)
+StepsFit frame position stage (op ∷ ops) values =
+    StepFits position op values × StepsFit frame position (stage_after stage op) ops (apply frame position stage op values)

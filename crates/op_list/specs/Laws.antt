@@ -28,9 +28,11 @@ AppliesWhereItFits = (frame : List ℕ) (position : PixelPosition) (stage : Stag
 
 abbrev pub RunsWhereItFits : Type 0
 RunsWhereItFits = (frame : List ℕ) (position : PixelPosition) (stage : Stage) (ops : List Op) (values : Values)
-    → StepsFit frame position stage ops values → checked_run_from frame position stage ops values ≡ Some (run_from frame position stage ops values)
+    → StepsFit frame position stage ops values
+    → checked_run_from frame position stage ops values ≡ Some (run_from frame position stage ops values)
 
--- element e of a pixel in plane p comes after those of the pixel in the planes before: the planes stand one after the other, and in each the pixels
+-- element e of a pixel in plane p comes after those of the pixel in the planes before: the planes stand one after the other, and in each
+-- the pixels
 abbrev pub ReadsInOrder : Type 0
 ReadsInOrder = (pixels pixel : ℕ) (planes : List ℕ) (p e : ℕ) → e < slice_index planes p
     → element_in pixels pixel 0 planes (sum (take p planes) + e) ≡ pixels * sum (take p planes) + pixel * slice_index planes p + e

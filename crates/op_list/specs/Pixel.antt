@@ -1,5 +1,7 @@
--- The elements of a pixel in a frame: the planes one after the other, in each the pixels one after the other, each with the same number of elements.
-use Rattle.std.specs.Prelude.{◌≡◌, ◌<◌, ◌≤◌, length, true, ℕ, zero, suc, ◌+◌, ◌-◌, ◌*◌, Bool, if◌then◌else◌, nat_lt, List, [], ◌∷◌, sum, slice_index}
+-- The elements of a pixel in a frame: the planes one after the other, in each the pixels one after the other, each with the same number of
+-- elements.
+use Rattle.std.specs.Prelude.{◌≡◌, ◌<◌, ◌≤◌, length, true, ℕ, zero, suc, ◌+◌, ◌-◌, ◌*◌, Bool, if◌then◌else◌, nat_lt, List, [], ◌∷◌, sum}
+use Rattle.std.specs.Prelude.{slice_index}
 use Rattle.op_list.specs.declared.types.PixType.{PixType}
 use Rattle.op_list.specs.declared.position.PixelPosition.{PixelPosition}
 use Rattle.op_list.specs.declared.op.Op.{Op}
@@ -47,7 +49,8 @@ palette_colours frame position = colours frame (pixel_count position + 4 * slice
 
 -- the values that a Read takes for a pixel
 abbrev pub read_values : PixType → List ℕ → Bool → List ℕ → PixelPosition → List ℕ
-read_values elem planes palette frame position = if palette then palette_colours frame position else four (λ i. element_of elem planes frame position i)
+read_values elem planes palette frame position =
+    if palette then palette_colours frame position else four (λ i. element_of elem planes frame position i)
 
 -- the bytes of a frame, as a Read or a Write states them
 unfoldable pub frame_length : Op → ℕ → ℕ → ℕ

@@ -31,11 +31,13 @@ checked_run_from frame position stage (op ∷ ops) values =
 -- the elements given to Write for the pixel at x in a row of the frame, where y is the row by which the dither goes
 unfoldable pub run : List Op → List ℕ → ℕ → ℕ → ℕ → ℕ → ℕ → List ℕ
 run ops frame width rows x row y =
-    let values = run_from frame (record { width = width; rows = rows; x = x; row = row; y = y }) Start ops no_values in four (λ i. number values i)
+    let values = run_from frame (record { width = width; rows = rows; x = x; row = row; y = y }) Start ops no_values in four
+    (λ i. number values i)
 
 unfoldable pub checked_run : List Op → List ℕ → ℕ → ℕ → ℕ → ℕ → ℕ → Option (List ℕ)
 checked_run ops frame width rows x row y =
-    option_map (λ values. four (λ i. number values i)) (checked_run_from frame (record { width = width; rows = rows; x = x; row = row; y = y }) Start ops no_values)
+    option_map (λ values. four (λ i. number values i))
+    (checked_run_from frame (record { width = width; rows = rows; x = x; row = row; y = y }) Start ops no_values)
 
 -- an operation may be applied: it may follow, its arguments are good, the values are of the type, and a Read has the frame that it states
 pub record MayApply (frame : List ℕ) (position : PixelPosition) (stage : Stage) (op : Op) (values : Values) : Type 0 where

@@ -1,5 +1,6 @@
 -- Which operations may follow one another, and with which arguments.
-use Rattle.std.specs.Prelude.{◌≡◌, ℕ, zero, suc, ◌^◌, Bool, true, false, not, ◌&&◌, ◌||◌, nat_eq, nat_lt, nat_le, List, [], ◌∷◌, sum, length, Option, Some, None, ℤ, pos, negsuc, ◌≤◌}
+use Rattle.std.specs.Prelude.{◌≡◌, ℕ, zero, suc, ◌^◌, Bool, true, false, not, ◌&&◌, ◌||◌, nat_eq, nat_lt, nat_le, List, [], ◌∷◌, sum}
+use Rattle.std.specs.Prelude.{length, Option, Some, None, ℤ, pos, negsuc, ◌≤◌}
 use Rattle.std.specs.List.{list_all}
 use Rattle.std.specs.Str.{bytes_eq}
 use Rattle.frac_math.specs.Fraction.{ℚ}
@@ -7,7 +8,8 @@ use Rattle.op_list.specs.declared.types.PixType.TheVariants.{U8, U16}
 use Rattle.op_list.specs.declared.types.Stage.{Stage}
 use Rattle.op_list.specs.declared.types.Stage.TheVariants.{Start, Typed, Ended}
 use Rattle.op_list.specs.declared.op.Op.{Op}
-use Rattle.op_list.specs.declared.op.Op.TheVariants.{Read, Write, SwapBytes, Unpack, Pack, Clear, LeftShift, RightShift, Swizzle, Convert, Dither, Linear, Scale, Min, Max}
+use Rattle.op_list.specs.declared.op.Op.TheVariants.{Read, Write, SwapBytes, Unpack, Pack, Clear, LeftShift, RightShift, Swizzle, Convert}
+use Rattle.op_list.specs.declared.op.Op.TheVariants.{Dither, Linear, Scale, Min, Max}
 use Rattle.op_list.specs.Types.{is_same, is_start, is_typed, has_type, is_whole, is_wide, is_rational, is_whole_type, bits_at}
 
 -- whether an operation of this kind may follow: the type that its values have before it

@@ -17,7 +17,8 @@ use crate::values::Values;
 use frac_math::dither_at;
 
 impl Op {
-    // What the operation makes of the values at a position of a frame. None where the numbers of a fraction leave i128.
+    // What the operation makes of the values at a position of a frame. None where the numbers of a
+    // fraction leave i128.
     #[tactic(auto, unfolding(crate::specs::Checked::checked_apply, crate::specs::Apply::apply))]
     pub(crate) fn apply(
         &self,

@@ -55,7 +55,8 @@ fn whole_number(value: &Frac, bits: u32) -> u32
 }
 
 fn cleared_fractions(entries: &[Option<Frac>; 4], values: &[Frac; 4]) -> [Frac; 4]
-    ensures { result ≡ four (λ i. cleared_fraction (entry entries.now i) (fraction_in values.now i)) }
+    ensures { result
+        ≡ four (λ i. cleared_fraction (entry entries.now i) (fraction_in values.now i)) }
 {
     [
         cleared_fraction(&entries[0], &values[0]),

@@ -1,6 +1,8 @@
-// The laws of the definitions, each the contract of a function.
-ghost use Rattle.op_list.specs.Laws.{AppliesExactly, RunsExactly, AppliesWhereItFits, RunsWhereItFits, ReadsInOrder};
-ghost use Rattle.op_list.specs.Walk.{EveryListWalksInParts, EveryListAppends, EveryPartIsReplaced, EveryFrontRunsAlike, EndsAsItsRest, NothingFollowsWrite};
+//! The laws of the definitions, each the contract of a function.
+ghost use Rattle.op_list.specs.Laws.{AppliesExactly, RunsExactly, AppliesWhereItFits};
+ghost use Rattle.op_list.specs.Laws.{RunsWhereItFits, ReadsInOrder};
+ghost use Rattle.op_list.specs.Walk.{EveryListWalksInParts, EveryListAppends, EveryPartIsReplaced};
+ghost use Rattle.op_list.specs.Walk.{EveryFrontRunsAlike, EndsAsItsRest, NothingFollowsWrite};
 ghost use Rattle.op_list.specs.Store.{ElementsMakeFrame};
 
 use crate::list::OpList;
@@ -35,12 +37,14 @@ pub fn appends_operation()
     ensures { EveryListAppends }
 {}
 
-/// Operations in the middle of a list, replaced by others that may stand for them: typing, stage and size.
+/// Operations in the middle of a list, replaced by others that may stand for them: typing, stage
+/// and size.
 pub fn replaces_part()
     ensures { EveryPartIsReplaced }
 {}
 
-/// Lists behind one front run alike where they do on what the front leaves, by the exact and by the checked run.
+/// Lists behind one front run alike where they do on what the front leaves, by the exact and by the
+/// checked run.
 pub fn runs_alike()
     ensures { EveryFrontRunsAlike }
 {}
@@ -65,7 +69,8 @@ pub fn elements_make_frame()
     ensures { ElementsMakeFrame }
 {}
 
-/// Lists may cross threads, and be shared by them.
+/// An `OpList` is `Send` and `Sync`: the workers of a run share one list. A missing proof of it
+/// would else show only where the first threads are started.
 pub fn crosses_threads() {
     crosses::<OpList>()
 }

@@ -1,4 +1,8 @@
-//! Lists of operations that convert a pixel: how they may follow one another, their exact meaning, and their evaluation in fractions of 128 bits.
+//! Lists of operations that convert a pixel.
+//!
+//! `specs/Typing` says how operations may follow one another, `specs/Apply` and `specs/Run` what
+//! they mean exactly, and `specs/Checked` how they are evaluated in fractions of 128 bits.
+//! `OpList::push` takes exactly what the typing allows; `OpList::run_pixel` evaluates.
 #![tactic(auto)]
 
 mod apply;
@@ -21,7 +25,9 @@ mod typing;
 mod values;
 
 pub use fault::PushFault;
+pub use fractions::{greater, lesser};
 pub use list::{MAX_OPERATIONS, OpList};
+pub use numbers::total;
 pub use op::Op;
 pub use position::PixelPosition;
 pub use store::store_elements;

@@ -1,13 +1,16 @@
-ghost use Rattle.std.specs.Prelude.{◌≡◌, ◌+◌, ◌*◌, ◌<◌, ◌≤◌, IsTrue, true, if◌then◌else◌, nat_lt, length, sum, slice_index};
+ghost use Rattle.std.specs.Prelude.{◌≡◌, ◌+◌, ◌*◌, ◌<◌, ◌≤◌, IsTrue, true, if◌then◌else◌, nat_lt};
+ghost use Rattle.std.specs.Prelude.{length, sum, slice_index};
 ghost use Rattle.op_list.specs.Types.{bytes, is_whole_type};
-ghost use Rattle.op_list.specs.Pixel.{number_at, element, element_in, element_of, pixel_count, pixel_number, colours, palette_colours, read_values};
+ghost use Rattle.op_list.specs.Pixel.{number_at, element, element_in, element_of, pixel_count};
+ghost use Rattle.op_list.specs.Pixel.{pixel_number, colours, palette_colours, read_values};
 ghost use Rattle.op_list.specs.Pixel.{IsPixelOf, HasElements, HasPalette};
 ghost use Rattle.op_list.specs.Values.{four};
 
 use crate::position::PixelPosition;
 use crate::types::PixType;
 
-/// The elements of a pixel in the order of its planes, and 0 for the values that are left; or the colours of its palette entry.
+/// The elements of a pixel in the order of its planes, and 0 for the values that are left; or the
+/// colours of its palette entry.
 pub fn read_values(
     elem: PixType,
     planes: &[u8; 4],
@@ -40,7 +43,13 @@ fn elements_of(elem: PixType, planes: &[u8; 4], frame: &[u8], position: &PixelPo
 
 // Element i of a pixel, and 0 where it has fewer.
 #[tactic(auto, unfolding(crate::specs::Pixel::element_of))]
-fn element_of(elem: PixType, planes: &[u8; 4], frame: &[u8], position: &PixelPosition, i: usize) -> u32
+fn element_of(
+    elem: PixType,
+    planes: &[u8; 4],
+    frame: &[u8],
+    position: &PixelPosition,
+    i: usize,
+) -> u32
     requires { HasElements elem planes.now frame.now position.now }
     ensures { result ≡ element_of elem planes.now frame.now position.now i }
 {

@@ -7,7 +7,8 @@ use crate::position::PixelPosition;
 use crate::types::Stage;
 use crate::values::Values;
 
-// The values after all operations, one after the other. None where the numbers of a fraction leave i128.
+// The values after all operations, one after the other. None where the numbers of a fraction leave
+// i128.
 pub fn values_after(ops: &[Op], frame: &[u8], position: &PixelPosition) -> Option<Values>
     requires { MayRun frame.now position.now Stage.Start ops.now no_values }
     ensures { result ≡ checked_run_from frame.now position.now Stage.Start ops.now no_values }

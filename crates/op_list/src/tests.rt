@@ -1,4 +1,5 @@
-// What push takes, and values from outside: the elements that another program's exact fractions give.
+// What push takes, and values from outside: the elements that another program's exact fractions
+// give.
 ghost use Rattle.std.specs.Prelude.{◌≡◌, false, IfOk, length};
 ghost use Rattle.op_list.specs.Run.{read_length};
 
@@ -30,7 +31,8 @@ fn answers(alloc: Global, front: &[Op], ops: &[Op], want: Result<(), PushFault>)
     true
 }
 
-// Whether the list of these operations gives these elements, row by row, where the dither goes by the rows from y on.
+// Whether the list of these operations gives these elements, row by row, where the dither goes by
+// the rows from y on.
 fn gives(
     alloc: Global,
     ops: &[Op],
@@ -124,7 +126,8 @@ fn clear(value: Frac) -> Op {
     }
 }
 
-// A linear map whose first row has this coefficient and this constant, and whose other rows are the identity.
+// A linear map whose first row has this coefficient and this constant, and whose other rows are the
+// identity.
 fn linear(coefficient: Frac, constant: Frac) -> Op {
     let zero = Frac::whole(0);
     let one = Frac::whole(1);
@@ -164,7 +167,11 @@ fn begins_with_a_read(rt: HostRuntime) {
         read_palette(PixType::U8, [1, 1, 0, 0]),
     ];
     assert!(rt; answers(rt.alloc(), &[], &bad, Err(PushFault::BadArgument)));
-    let others = [Op::SwapBytes, swizzle([0, 0, 0, 0]), write(PixType::U8, [1, 0, 0, 0])];
+    let others = [
+        Op::SwapBytes,
+        swizzle([0, 0, 0, 0]),
+        write(PixType::U8, [1, 0, 0, 0]),
+    ];
     assert!(rt; answers(rt.alloc(), &[], &others, Err(PushFault::WrongType)));
     let second = [read(PixType::U8, [1, 0, 0, 0])];
     assert!(rt; answers(rt.alloc(), &second, &second, Err(PushFault::WrongType)));
@@ -188,7 +195,14 @@ fn ends_with_a_write(rt: HostRuntime) {
     assert!(rt; answers(rt.alloc(), &front, &other_type, Err(PushFault::WrongType)));
     let fractions = [front[0], convert(PixType::Rat)];
     let of_fractions = [write(PixType::Rat, [1, 0, 0, 0])];
-    assert!(rt; answers(rt.alloc(), &fractions, &of_fractions, Err(PushFault::BadArgument)));
+    assert!(rt;
+        answers(
+            rt.alloc(),
+            &fractions,
+            &of_fractions,
+            Err(PushFault::BadArgument)
+        )
+    );
     let ended = [front[0], write(PixType::U16, [1, 0, 0, 0])];
     let after = [ended[1], Op::SwapBytes, convert(PixType::U8)];
     assert!(rt; answers(rt.alloc(), &ended, &after, Err(PushFault::WrongType)));
@@ -220,8 +234,19 @@ fn widths_and_shifts_fit_the_type(rt: HostRuntime) {
     let wrong = [Op::SwapBytes, Op::Dither { k: 0 }];
     assert!(rt; answers(rt.alloc(), &front, &wrong, Err(PushFault::WrongType)));
     let fractions = [front[0], convert(PixType::Rat)];
-    let of_numbers = [unpack([8, 0, 0, 0]), pack([8, 0, 0, 0]), Op::RightShift { n: 0 }];
-    assert!(rt; answers(rt.alloc(), &fractions, &of_numbers, Err(PushFault::WrongType)));
+    let of_numbers = [
+        unpack([8, 0, 0, 0]),
+        pack([8, 0, 0, 0]),
+        Op::RightShift { n: 0 },
+    ];
+    assert!(rt;
+        answers(
+            rt.alloc(),
+            &fractions,
+            &of_numbers,
+            Err(PushFault::WrongType)
+        )
+    );
 }
 
 #[test]
@@ -246,15 +271,33 @@ fn expands_bytes_alone(rt: HostRuntime) {
     let words = [read(PixType::U16, [1, 0, 0, 0])];
     let fractions = [bytes[0], convert(PixType::Rat)];
     let to_words = [expand(PixType::U16)];
-    let to_others = [expand(PixType::U8), expand(PixType::U32), expand(PixType::Rat)];
+    let to_others = [
+        expand(PixType::U8),
+        expand(PixType::U32),
+        expand(PixType::Rat),
+    ];
     assert!(rt; answers(rt.alloc(), &bytes, &to_words, Ok(())));
     assert!(rt; answers(rt.alloc(), &bytes, &to_others, Err(PushFault::BadArgument)));
     assert!(rt; answers(rt.alloc(), &words, &to_words, Err(PushFault::BadArgument)));
-    assert!(rt; answers(rt.alloc(), &fractions, &to_words, Err(PushFault::BadArgument)));
+    assert!(rt;
+        answers(
+            rt.alloc(),
+            &fractions,
+            &to_words,
+            Err(PushFault::BadArgument)
+        )
+    );
     let dithers = [Op::Dither { k: 0 }, Op::Dither { k: 4 }];
     assert!(rt; answers(rt.alloc(), &fractions, &dithers, Ok(())));
     let greater = [Op::Dither { k: 5 }];
-    assert!(rt; answers(rt.alloc(), &fractions, &greater, Err(PushFault::BadArgument)));
+    assert!(rt;
+        answers(
+            rt.alloc(),
+            &fractions,
+            &greater,
+            Err(PushFault::BadArgument)
+        )
+    );
 }
 
 #[test]

@@ -1,6 +1,7 @@
 ghost use Rattle.std.specs.Prelude.{◌≡◌, ◌≤◌, nat_eq};
 ghost use Rattle.std.specs.List.{list_all};
-ghost use Rattle.op_list.specs.Typing.{may_follow, is_write, stage_after, are_good, are_in_front, are_counts, fits_bits, all_fit};
+ghost use Rattle.op_list.specs.Typing.{may_follow, is_write, stage_after, are_good, are_in_front};
+ghost use Rattle.op_list.specs.Typing.{are_counts, fits_bits, all_fit};
 
 use crate::numbers::total;
 use crate::op::Op;

@@ -10,7 +10,8 @@ pub returns-in_err-values-clause-checked : goal.returns-in_err-values-clause-che
 returns-in_err-values-clause-checked c =
     let is = sym c.values_after.ensures ∙ c.in_err-values.was in
     rw c.from_residual.ensures
-    (sym (checked_run-none c.args.self.now c.args.frame.now c.args.width c.args.rows c.args.x c.args.row c.args.y (rw c.ops.ensures.same at is)))
+    (sym (checked_run-none c.args.self.now c.args.frame.now c.args.width c.args.rows c.args.x c.args.row c.args.y
+    (rw c.ops.ensures.same at is)))
 
 pub elements-requires : goal.elements-requires
 elements-requires c =

@@ -1,6 +1,7 @@
 use Rattle.std.proofs.Common.{refl, ◌∙◌}
 use Rattle.op_list.specs.Typing.{may_follow}
-use Rattle.op_list.proofs.Applied.{wide_bits, numbers_before, read_pixel, unpack_widths, pack_widths, left_shift, right_shift, dither_levels, swizzle_lanes, clear_entries}
+use Rattle.op_list.proofs.Applied.{wide_bits, numbers_before, read_pixel, unpack_widths, pack_widths, left_shift, right_shift}
+use Rattle.op_list.proofs.Applied.{dither_levels, swizzle_lanes, clear_entries}
 use Rattle.op_list.proofs.op.Op.apply.Goals as goal
 
 pub read_values-requires : goal.read_values-requires
