@@ -7,7 +7,7 @@ use Rattle.frac_math.specs.Fraction.{ℚ, nat, ◌+ℚ◌, ◌*ℚ◌}
 use Rattle.frac_math.specs.Checked.{checked_sum, checked_product}
 use Rattle.frac_math.specs.Dither.{dither_at}
 use Rattle.op_list.specs.declared.types.Stage.{Stage}
-use Rattle.op_list.specs.declared.place.Place.{Place}
+use Rattle.op_list.specs.declared.position.PixelPosition.{PixelPosition}
 use Rattle.op_list.specs.declared.op.Op.{Op}
 use Rattle.op_list.specs.declared.op.Op.TheVariants.{Dither, Linear, Scale, Min, Max}
 use Rattle.op_list.specs.declared.values.Values.{Values}
@@ -18,30 +18,31 @@ use Rattle.op_list.specs.Apply.{apply, row_of, row_value, product, at_most, at_l
 use Rattle.op_list.specs.Checked.{checked_apply, checked_row, checked_term}
 use Rattle.op_list.specs.Run.{run_from, checked_run_from}
 use Rattle.op_list.proofs.Exact.{option_map_some}
-use Rattle.op_build.specs.Bounds.{Bound, HasBound, HaveBounds, bound, bound_of, bound_in, reduced_bound, both_bound, sum_bound, product_bound, term_bound, row_bound, limited_bound, bounds_after, bounds_from, dither_bound}
-use Rattle.op_build.proofs.BoundFractions.{two_small, sum_there, sum_bounded, product_there, product_bounded, reduced, itself_bound, min_bounded, max_bounded, dither_bounded}
+use Rattle.op_range.specs.FractionBoundLaws.{BoundsAreEnough}
+use Rattle.op_range.specs.FractionBounds.{FractionBound, HasBound, HaveBounds, bound, bound_of, bound_in, reduced_bound, both_bound, sum_bound, product_bound, term_bound, row_bound, limited_bound, bounds_after, bounds_from, dither_bound}
+use Rattle.op_range.proofs.FractionBounds.{two_small, sum_there, sum_bounded, product_there, product_bounded, reduced, itself_bound, min_bounded, max_bounded, dither_bounded}
 
 -- a checked answer is the exact one, within a bound
-pub record IsThere (answer : Option ℚ) (x : ℚ) (b : Bound) : Type 0 where
+pub record IsThere (answer : Option ℚ) (x : ℚ) (b : FractionBound) : Type 0 where
   pub there : answer ≡ Some x
   pub bounded : HasBound x b
 
-by_test : (x : ℚ) (answer : Option ℚ) (t : Bool) (b c : Bound) → (t ≡ true → answer ≡ Some x) → HasBound x b → (if t then Some b else None) ≡ Some c → IsThere answer x c
+by_test : (x : ℚ) (answer : Option ℚ) (t : Bool) (b c : FractionBound) → (t ≡ true → answer ≡ Some x) → HasBound x b → (if t then Some b else None) ≡ Some c → IsThere answer x c
 by_test x answer t b c there has h = let p = cond_some t b c h in record { there = there p.0; bounded = subst (λ d. HasBound x d) p.1 has }
 
-sum_step : (x y : ℚ) (b c d : Bound) → HasBound x b → HasBound y c → sum_bound b c ≡ Some d → IsThere (checked_sum x y) (x +ℚ y) d
+sum_step : (x y : ℚ) (b c d : FractionBound) → HasBound x b → HasBound y c → sum_bound b c ≡ Some d → IsThere (checked_sum x y) (x +ℚ y) d
 unfolding sum_bound
 sum_step x y b c d h k e = by_test (x +ℚ y) (checked_sum x y) _ (both_bound b c) d (λ t. let p = two_small _ _ t in sum_there x y b c h k p.0 p.1) (sum_bounded x y b c h k) e
 
-product_step : (x y : ℚ) (b c d : Bound) → HasBound x b → HasBound y c → product_bound b c ≡ Some d → IsThere (checked_product x y) (x *ℚ y) d
+product_step : (x y : ℚ) (b c d : FractionBound) → HasBound x b → HasBound y c → product_bound b c ≡ Some d → IsThere (checked_product x y) (x *ℚ y) d
 unfolding product_bound
 product_step x y b c d h k e =
     by_test (x *ℚ y) (checked_product x y) _ (reduced_bound (bound (b.denominator * c.denominator) (b.size * c.size))) d
     (λ t. let p = two_small _ _ t in product_there x y b c h k p.0 p.1) (reduced (x *ℚ y) _ (product_bounded x y b c h k)) e
 
 -- ---- a row
-there_then : (f : ℚ → Option ℚ) (g : Bound → Option Bound) (o : Option ℚ) (p : Option Bound) (x : ℚ) (y : ℚ) (c : Bound)
-    → ((b : Bound) → p ≡ Some b → IsThere o x b) → ((b : Bound) → HasBound x b → g b ≡ Some c → IsThere (f x) y c)
+there_then : (f : ℚ → Option ℚ) (g : FractionBound → Option FractionBound) (o : Option ℚ) (p : Option FractionBound) (x : ℚ) (y : ℚ) (c : FractionBound)
+    → ((b : FractionBound) → p ≡ Some b → IsThere o x b) → ((b : FractionBound) → HasBound x b → g b ≡ Some c → IsThere (f x) y c)
     → option_and_then g p ≡ Some c → IsThere (option_and_then f o) y c
 there_then f g o p x y c first second h =
     option_and_then_some g p c h (λ b is rest.
@@ -49,7 +50,7 @@ there_then f g o p x y c first second h =
     let t = second b s.bounded rest in
     record { there = ap (λ a. option_and_then f a) s.there ∙ t.there; bounded = t.bounded })
 
-term_step : (row : List ℚ) (values : Values) (bounds : List Bound) (i : ℕ) (total : ℚ) (b c : Bound) → HaveBounds values bounds → HasBound total b
+term_step : (row : List ℚ) (values : Values) (bounds : List FractionBound) (i : ℕ) (total : ℚ) (b c : FractionBound) → HaveBounds values bounds → HasBound total b
     → term_bound row bounds i b ≡ Some c → IsThere (checked_term row values i total) (total +ℚ product row values i) c
 term_step row values bounds i total b c have h e =
     there_then (λ term. checked_sum total term) (λ term. sum_bound b term) (checked_product (fraction_in row i) (fraction values i)) (product_bound (bound_of (fraction_in row i)) (bound_in bounds i))
@@ -57,7 +58,7 @@ term_step row values bounds i total b c have h e =
     (λ d is. product_step (fraction_in row i) (fraction values i) _ _ d (itself_bound (fraction_in row i)) (have.each i) is)
     (λ d has rest. sum_step total (product row values i) b d c h has rest) e
 
-row_step : (row : List ℚ) (values : Values) (bounds : List Bound) (c : Bound) → HaveBounds values bounds → row_bound row bounds ≡ Some c → IsThere (checked_row row values) (row_value row values) c
+row_step : (row : List ℚ) (values : Values) (bounds : List FractionBound) (c : FractionBound) → HaveBounds values bounds → row_bound row bounds ≡ Some c → IsThere (checked_row row values) (row_value row values) c
 unfolding row_bound checked_row
 row_step row values bounds c have e =
     let x0 = fraction_in row 4 in
@@ -73,7 +74,7 @@ row_step row values bounds c have e =
     (λ b h r. term_step row values bounds 3 x3 b c have h r) e
 
 -- ---- four of them
-pub of_four : (g : ℕ → ℚ) (a b c d : Bound) → HasBound (g 0) a → HasBound (g 1) b → HasBound (g 2) c → HasBound (g 3) d
+pub of_four : (g : ℕ → ℚ) (a b c d : FractionBound) → HasBound (g 0) a → HasBound (g 1) b → HasBound (g 2) c → HasBound (g 3) d
     → (i : ℕ) → HasBound (fraction_in (four g) i) (bound_in (a ∷ b ∷ c ∷ d ∷ []) i)
 of_four g a b c d p q r s zero = p
 of_four g a b c d p q r s (suc zero) = q
@@ -82,14 +83,14 @@ of_four g a b c d p q r s (suc (suc (suc zero))) = s
 of_four g a b c d p q r s (suc (suc (suc (suc i)))) = itself_bound (nat 0)
 
 -- the checked answer of an operation is the exact one, within bounds
-pub record AreThere (answer : Option Values) (values : Values) (bounds : List Bound) : Type 0 where
+pub record AreThere (answer : Option Values) (values : Values) (bounds : List FractionBound) : Type 0 where
   pub there : answer ≡ Some values
   pub bounded : HaveBounds values bounds
 
 four_there : (f : ℕ → Option ℚ) (g : ℕ → ℚ) → f 0 ≡ Some (g 0) → f 1 ≡ Some (g 1) → f 2 ≡ Some (g 2) → f 3 ≡ Some (g 3) → option_map Fractions (all_four f) ≡ Some (Fractions (four g))
 four_there f g p q r s = rw (p, q, r, s)
 
-each_step : (f : ℕ → Option ℚ) (g : ℕ → ℚ) (h : ℕ → Option Bound) (bounds : List Bound) → ((i : ℕ) (b : Bound) → h i ≡ Some b → IsThere (f i) (g i) b)
+each_step : (f : ℕ → Option ℚ) (g : ℕ → ℚ) (h : ℕ → Option FractionBound) (bounds : List FractionBound) → ((i : ℕ) (b : FractionBound) → h i ≡ Some b → IsThere (f i) (g i) b)
     → all_four h ≡ Some bounds → AreThere (option_map Fractions (all_four f)) (Fractions (four g)) bounds
 each_step f g h bounds step e =
     option_and_then_some _ (h 0) bounds e (λ a ea ra. option_and_then_some _ (h 1) bounds ra (λ b eb rb. option_and_then_some _ (h 2) bounds rb
@@ -101,15 +102,15 @@ each_step f g h bounds step e =
     }))))
 
 -- ---- limits
-least_bounded : (limit : Option ℚ) (x : ℚ) (b : Bound) → HasBound x b → HasBound (at_most limit x) (limited_bound limit b)
+least_bounded : (limit : Option ℚ) (x : ℚ) (b : FractionBound) → HasBound x b → HasBound (at_most limit x) (limited_bound limit b)
 least_bounded None x b h = h
 least_bounded (Some limit) x b h = min_bounded x limit b (bound_of limit) h (itself_bound limit)
 
-greatest_bounded : (limit : Option ℚ) (x : ℚ) (b : Bound) → HasBound x b → HasBound (at_least limit x) (limited_bound limit b)
+greatest_bounded : (limit : Option ℚ) (x : ℚ) (b : FractionBound) → HasBound x b → HasBound (at_least limit x) (limited_bound limit b)
 greatest_bounded None x b h = h
 greatest_bounded (Some limit) x b h = max_bounded x limit b (bound_of limit) h (itself_bound limit)
 
-limits_step : (g : ℕ → ℚ) (k : ℕ → Bound) (bounds : List Bound) → ((i : ℕ) → HasBound (g i) (k i)) → Some (four k) ≡ Some bounds
+limits_step : (g : ℕ → ℚ) (k : ℕ → FractionBound) (bounds : List FractionBound) → ((i : ℕ) → HasBound (g i) (k i)) → Some (four k) ≡ Some bounds
     → AreThere (Some (Fractions (four g))) (Fractions (four g)) bounds
 limits_step g k bounds has e = record {
   there = refl;
@@ -120,7 +121,7 @@ limits_step g k bounds has e = record {
 }
 
 -- ---- an operation
-pub apply_there : (frame : List ℕ) (place : Place) (stage : Stage) (op : Op) (values : Values) (bounds after : List Bound) → HaveBounds values bounds
+pub apply_there : (frame : List ℕ) (place : PixelPosition) (stage : Stage) (op : Op) (values : Values) (bounds after : List FractionBound) → HaveBounds values bounds
     → bounds_after op bounds ≡ Some after → AreThere (checked_apply frame place stage op values) (apply frame place stage op values) after
 unfolding bounds_after checked_apply apply
 apply_there frame place stage (Dither k) values bounds after have e =
@@ -142,7 +143,7 @@ apply_there frame place stage (Max limits) values bounds after have e =
 apply_there frame place stage op values bounds after have e = absurd (none-some after e)
 
 -- ---- a list
-pub run_there : (frame : List ℕ) (place : Place) (stage : Stage) (ops : List Op) (values : Values) (bounds after : List Bound) → HaveBounds values bounds
+pub run_there : (frame : List ℕ) (place : PixelPosition) (stage : Stage) (ops : List Op) (values : Values) (bounds after : List FractionBound) → HaveBounds values bounds
     → bounds_from ops bounds ≡ Some after → AreThere (checked_run_from frame place stage ops values) (run_from frame place stage ops values) after
 unfolding bounds_from checked_run_from run_from
 run_there frame place stage [] values bounds after have e = record { there = refl; bounded = subst (λ bs. HaveBounds values bs) (same_Some bounds after e) have }
@@ -154,3 +155,7 @@ run_there frame place stage (op ∷ ops) values bounds after have e =
       there = ap (λ a. option_and_then (λ next. checked_run_from frame place (stage_after stage op) ops next) a) s.there ∙ t.there;
       bounded = t.bounded;
     })
+
+pub bounds_are_enough : BoundsAreEnough
+bounds_are_enough frame place stage ops values bounds after have e =
+    let s = run_there frame place stage ops values bounds after have e in record { there = s.there; bounded = s.bounded }

@@ -17,7 +17,7 @@ use Rattle.frac_math.proofs.FractionRing.{itself, change, mul_stands, common_add
 use Rattle.frac_math.proofs.CheckedCalls.{checked_sum_some, checked_product_some}
 use Rattle.frac_math.proofs.FractionOrder.{min_cases, max_cases}
 use Rattle.frac_math.proofs.DitherLaws.{index_number, index_number_below, dither_stands}
-use Rattle.op_build.specs.Bounds.{Bound, HasBound, bound, bound_of, is_small, factor, other_factor, reduced_bound, both_bound, dither_bound}
+use Rattle.op_range.specs.FractionBounds.{FractionBound, HasBound, bound, bound_of, is_small, factor, other_factor, reduced_bound, both_bound, dither_bound}
 
 -- ---- sizes
 fits_of_size : (z : ℤ) (n : ℕ) → unsigned_abs z ≤ n → n < 2 ^ 127 → Fits z
@@ -31,10 +31,10 @@ size_mul : (a b : ℤ) (m n : ℕ) → unsigned_abs a ≤ m → unsigned_abs b �
 size_mul a b m n p q = subst (λ (k : ℕ). k ≤ m * n) (sym (unsigned_abs-mul a b)) (mul-le-mul p q)
 
 -- ---- the numbers of a fraction with a bound
-pub denominator_most : (x : ℚ) (b : Bound) → HasBound x b → x.denominator ≤ b.denominator
+pub denominator_most : (x : ℚ) (b : FractionBound) → HasBound x b → x.denominator ≤ b.denominator
 denominator_most x b h = denominator_least x h.numerator b.denominator h.stands
 
-pub numerator_most : (x : ℚ) (b : Bound) → HasBound x b → unsigned_abs x.numerator ≤ b.size
+pub numerator_most : (x : ℚ) (b : FractionBound) → HasBound x b → unsigned_abs x.numerator ≤ b.size
 numerator_most x b h = omega (arith, numerator_least x h.numerator b.denominator h.stands, h.most)
 
 pub itself_bound : (x : ℚ) → HasBound x (bound_of x)
@@ -72,10 +72,10 @@ pub common : (d e : ℕ) → d * factor d e ≡ e * other_factor d e
 common d e = crossed d e (other_factor d e) (factor d e) (gcd d e) (div-mul_cancel (gcd d e) (gcd-is d e).0) (div-mul_cancel (gcd d e) (gcd-is d e).1)
 
 -- both over the least common multiple
-pub left_raised : (x y : ℚ) (b c : Bound) → HasBound x b → HasBound y c → HasBound x (bound (b.denominator * factor b.denominator c.denominator) (b.size * factor b.denominator c.denominator))
+pub left_raised : (x y : ℚ) (b c : FractionBound) → HasBound x b → HasBound y c → HasBound x (bound (b.denominator * factor b.denominator c.denominator) (b.size * factor b.denominator c.denominator))
 left_raised x y b c h k = raised x b.denominator b.size _ h (factor_positive b.denominator c.denominator k.stands.positive)
 
-pub right_raised : (x y : ℚ) (b c : Bound) → HasBound x b → HasBound y c → HasBound y (bound (b.denominator * factor b.denominator c.denominator) (c.size * other_factor b.denominator c.denominator))
+pub right_raised : (x y : ℚ) (b c : FractionBound) → HasBound x b → HasBound y c → HasBound y (bound (b.denominator * factor b.denominator c.denominator) (c.size * other_factor b.denominator c.denominator))
 right_raised x y b c h k =
     subst (λ (l : ℕ). HasBound y (bound l (c.size * other_factor b.denominator c.denominator))) (sym (common b.denominator c.denominator))
     (raised y c.denominator c.size _ k (other_positive b.denominator c.denominator h.stands.positive))
@@ -91,7 +91,7 @@ added x y d m n h k = record {
 pub two_small : (a b : ℕ) → (is_small a && is_small b) ≡ true → (a < 2 ^ 127) × (b < 2 ^ 127)
 two_small a b h = let p = and_parts _ _ h in (ltb-true a (2 ^ 127) p.0, ltb-true b (2 ^ 127) p.1)
 
-pub sum_there : (x y : ℚ) (b c : Bound) → HasBound x b → HasBound y c
+pub sum_there : (x y : ℚ) (b c : FractionBound) → HasBound x b → HasBound y c
     → b.size * c.denominator + c.size * b.denominator < 2 ^ 127 → b.denominator * c.denominator < 2 ^ 127 → checked_sum x y ≡ Some (x +ℚ y)
 sum_there x y b c h k s t =
     let left : unsigned_abs (x.numerator *ℤ pos y.denominator) ≤ b.size * c.denominator = size_mul x.numerator (pos y.denominator) _ _ (numerator_most x b h) (denominator_most y c k) in
@@ -105,12 +105,12 @@ sum_there x y b c h k s t =
       denominator = fits_of_size (pos x.denominator *ℤ pos y.denominator) _ (size_mul (pos x.denominator) (pos y.denominator) _ _ (denominator_most x b h) (denominator_most y c k)) t;
     })
 
-pub sum_bounded : (x y : ℚ) (b c : Bound) → HasBound x b → HasBound y c
+pub sum_bounded : (x y : ℚ) (b c : FractionBound) → HasBound x b → HasBound y c
     → HasBound (x +ℚ y) (both_bound b c)
 sum_bounded x y b c h k = added x y _ _ _ (left_raised x y b c h k) (right_raised x y b c h k)
 
 -- ---- a product
-pub product_there : (x y : ℚ) (b c : Bound) → HasBound x b → HasBound y c
+pub product_there : (x y : ℚ) (b c : FractionBound) → HasBound x b → HasBound y c
     → b.size * c.size < 2 ^ 127 → b.denominator * c.denominator < 2 ^ 127 → checked_product x y ≡ Some (x *ℚ y)
 product_there x y b c h k s t =
     checked_product_some x y (record {
@@ -118,7 +118,7 @@ product_there x y b c h k s t =
       denominator = fits_of_size (pos x.denominator *ℤ pos y.denominator) _ (size_mul (pos x.denominator) (pos y.denominator) _ _ (denominator_most x b h) (denominator_most y c k)) t;
     })
 
-pub product_bounded : (x y : ℚ) (b c : Bound) → HasBound x b → HasBound y c → HasBound (x *ℚ y) (bound (b.denominator * c.denominator) (b.size * c.size))
+pub product_bounded : (x y : ℚ) (b c : FractionBound) → HasBound x b → HasBound y c → HasBound (x *ℚ y) (bound (b.denominator * c.denominator) (b.size * c.size))
 product_bounded x y b c h k = record {
   numerator = h.numerator *ℤ k.numerator;
   stands = mul_stands x y h.numerator k.numerator b.denominator c.denominator h.stands k.stands;
@@ -132,7 +132,7 @@ zero_size z h = omega (arith, ints, h)
 zero_over : (z : ℤ) (d : ℕ) → z ≡ pos 0 → z *ℤ pos 1 ≡ pos 0 *ℤ pos d
 zero_over z d e = ap (λ (k : ℤ). k *ℤ pos 1) e ∙ ring ints_ring (pos d ∷ []) (num (pos 0) ⊗ num (pos 1)) (num (pos 0) ⊗ var 0) refl
 
-reduced_by : (x : ℚ) (b : Bound) (t : Bool) → (t ≡ true → b.size ≡ 0) → HasBound x b → HasBound x (if t then bound 1 0 else b)
+reduced_by : (x : ℚ) (b : FractionBound) (t : Bool) → (t ≡ true → b.size ≡ 0) → HasBound x b → HasBound x (if t then bound 1 0 else b)
 reduced_by x b false e h = h
 reduced_by x b true e h =
     let most : unsigned_abs h.numerator ≤ 0 = omega (arith, h.most, e refl) in
@@ -142,20 +142,20 @@ reduced_by x b true e h =
       most = omega arith;
     }
 
-pub reduced : (x : ℚ) (b : Bound) → HasBound x b → HasBound x (reduced_bound b)
+pub reduced : (x : ℚ) (b : FractionBound) → HasBound x b → HasBound x (reduced_bound b)
 reduced x b h = reduced_by x b (nat_eq b.size 0) (eqb-true b.size 0) h
 
 -- ---- the lesser and the greater
-left_bounded : (x y : ℚ) (b c : Bound) → HasBound x b → HasBound y c → HasBound x (both_bound b c)
+left_bounded : (x y : ℚ) (b c : FractionBound) → HasBound x b → HasBound y c → HasBound x (both_bound b c)
 left_bounded x y b c h k = wider x _ _ _ (left_raised x y b c h k) (omega arith)
 
-right_bounded : (x y : ℚ) (b c : Bound) → HasBound x b → HasBound y c → HasBound y (both_bound b c)
+right_bounded : (x y : ℚ) (b c : FractionBound) → HasBound x b → HasBound y c → HasBound y (both_bound b c)
 right_bounded x y b c h k = wider y _ _ _ (right_raised x y b c h k) (omega arith)
 
-pub min_bounded : (x y : ℚ) (b c : Bound) → HasBound x b → HasBound y c → HasBound (min_ℚ x y) (both_bound b c)
+pub min_bounded : (x y : ℚ) (b c : FractionBound) → HasBound x b → HasBound y c → HasBound (min_ℚ x y) (both_bound b c)
 min_bounded x y b c h k = min_cases (λ z. HasBound z (both_bound b c)) x y (λ p. left_bounded x y b c h k) (λ p. right_bounded x y b c h k)
 
-pub max_bounded : (x y : ℚ) (b c : Bound) → HasBound x b → HasBound y c → HasBound (max_ℚ x y) (both_bound b c)
+pub max_bounded : (x y : ℚ) (b c : FractionBound) → HasBound x b → HasBound y c → HasBound (max_ℚ x y) (both_bound b c)
 max_bounded x y b c h k = max_cases (λ z. HasBound z (both_bound b c)) x y (λ p. right_bounded x y b c h k) (λ p. left_bounded x y b c h k)
 
 -- ---- the dither

@@ -1,9 +1,10 @@
 ghost use Rattle.std.specs.Prelude.{◌≡◌, ◌<◌, ◌≤◌, ◌*◌, ◌^◌, sum, IfSome, IsNone};
 ghost use Rattle.op_list.specs.Pixel.{element_in, pixel_count, pixel_number};
 
-/// The place of a pixel in a frame of `width` by `rows` pixels, which may be some rows of a larger frame.
+/// The position of a pixel in a frame of `width` by `rows` pixels, which may be some rows of a
+/// larger frame.
 #[derive(Clone, Copy, Debug)]
-pub struct Place {
+pub struct PixelPosition {
     pub width: u32,
     pub rows: u32,
     /// The column.
@@ -14,7 +15,7 @@ pub struct Place {
     pub y: u32,
 }
 
-impl Place {
+impl PixelPosition {
     // The pixels of the frame.
     pub(crate) fn pixel_count(&self) -> usize
         ensures { result ≡ pixel_count self.now }
@@ -37,7 +38,8 @@ impl Place {
         requires column { self.now.x < self.now.width }
         requires row { self.now.row < self.now.rows }
         requires fits { pixel_count self.now * sum planes.now < 2 ^ 64 }
-        ensures index { IfSome result (λ k. (i < sum planes.now) × (k ≡ element_in (pixel_count self.now) (pixel_number self.now) 0 planes.now i)) }
+        ensures index { IfSome result (λ k. (i < sum planes.now)
+            × (k ≡ element_in (pixel_count self.now) (pixel_number self.now) 0 planes.now i)) }
         ensures fewer { IsNone result → sum planes.now ≤ i }
     {
         let pixels = self.pixel_count();

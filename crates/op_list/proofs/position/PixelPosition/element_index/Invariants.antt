@@ -1,7 +1,7 @@
 use Rattle.std.proofs.Common.{◌≡◌, ◌+◌, drop}
 use Rattle.std.specs.Prelude.{sum}
 use Rattle.op_list.specs.Pixel.{element_in}
-use Rattle.op_list.proofs.place.Place.element_index.Given as goal
+use Rattle.op_list.proofs.position.PixelPosition.element_index.Given as goal
 
 abbrev pub invariant-loop-n : goal.invariant-loop-n
 invariant-loop-n l = record {
