@@ -1,2 +1,11 @@
 pub mod FractionBounds
 pub mod FractionBoundSteps
+pub mod Fours
+pub mod Agreeing
+pub mod UsedSteps
+pub mod Within
+pub mod NumberRanges
+pub mod FractionRanges
+pub mod RangeSteps
+pub mod SmallSteps
+pub mod States

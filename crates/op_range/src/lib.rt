@@ -2,3 +2,8 @@
 #![tactic(auto)]
 
 pub mod laws;
+mod range;
+mod state;
+
+pub use range::ValueRange;
+pub use state::{CompRange, StateRange};
