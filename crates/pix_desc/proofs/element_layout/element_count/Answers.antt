@@ -1,8 +1,8 @@
 use Rattle.std.proofs.Common.{◌≡◌, ◌+◌, ◌/◌, ◌<◌, true, false, not, cond, length, get_or, take, sym, ◌∙◌, ap, arith}
 use Rattle.pix_desc.specs.Component.{no_component}
 use Rattle.pix_desc.proofs.Planes.{elements_of, elements_left, elements_left-none, elements_left-more, is_new}
-use Rattle.pix_desc.proofs.layout.element_count.Goals as goal
-use Rattle.pix_desc.proofs.layout.element_count.Goals.{then-not-is_used, else-not-is_used}
+use Rattle.pix_desc.proofs.element_layout.element_count.Goals as goal
+use Rattle.pix_desc.proofs.element_layout.element_count.Goals.{then-not-is_used, else-not-is_used}
 
 pub loop-i-init : goal.loop-i-init
 loop-i-init c = record { all = omega (arith, elements_left-none c.args.comps.now); small = omega arith }
