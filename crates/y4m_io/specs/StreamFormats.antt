@@ -5,7 +5,7 @@ use Rattle.std.specs.Option.{option_map, option_and_then, is_some}
 use Rattle.std.specs.Result.{result_ok}
 use Rattle.std.specs.Str.{bytes_eq}
 use Rattle.desc_table.specs.Format.{name_of}
-use Rattle.desc_table.specs.Refused.{found}
+use Rattle.desc_table.specs.Refused.{lookup}
 
 -- a colour space: the text of its C tag, and the name of its format
 pub record ColourSpace : Type 0 where
@@ -36,7 +36,7 @@ name_of_text text = option_map (λ space. space.name) (find (λ space. bytes_eq 
 
 -- the format with this C tag
 abbrev pub format_of_text : List ℕ → Option ℕ
-format_of_text text = option_and_then (λ name. result_ok (found name)) (name_of_text text)
+format_of_text text = option_and_then (λ name. result_ok (lookup name)) (name_of_text text)
 
 -- the C tag of the format with this name; yuvj444p has that of yuv444p
 abbrev pub text_of_name : List ℕ → Option (List ℕ)

@@ -6,6 +6,7 @@
 
 mod fault;
 mod header;
+mod tags;
 
 pub use fault::{FrameLine, HeaderEnd, LineEnd, StreamFault};
 pub use header::{Header, TagText};
