@@ -26,7 +26,8 @@ fn given<'a>(alloc: Global, words: &'a [String]) -> Result<ArgMatches<'a>, Error
         .no_binary_name(true)
         .disable_help_flag(true);
     for option in options() {
-        command = command.arg(Arg::new(alloc, option.name).long(option.name))?;
+        let name: &'a str = option.name;
+        command = command.arg(Arg::new(alloc, name).long(name))?;
     }
     command.try_get_matches_from(words)
 }
