@@ -89,5 +89,5 @@ is_barred UnlessStream form = is_stream form
 is_barred WithRaw form = is_stream form
 
 -- what a row of the program's table says
-abbrev pub option_of : OptionRow → CommandOption
+unfoldable pub option_of : OptionRow → CommandOption
 option_of row = record { name = row.name.now; owners = row.owners; need = row.need; values = row.values }

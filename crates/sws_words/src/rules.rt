@@ -17,6 +17,7 @@ use colour_matrix::Range;
 use desc_table::{FormatId, desc, name};
 
 // Whether the task requires an option that is not given.
+#[tactic(auto, unfolding(crate::specs::Rules::lacks, crate::specs::Options::option_of))]
 fn lacks(given: &ArgMatches<'_>, task: TaskName, option: &OptionRow) -> bool
     ensures { result ≡ lacks (given_in given.now) task (option_of option.now) }
 {
@@ -37,6 +38,7 @@ fn is_missing(given: &ArgMatches<'_>, task: TaskName) -> bool
 }
 
 // Whether an option is given that the task does not have, or that the source's header stands for.
+#[tactic(auto, unfolding(crate::specs::Rules::bars, crate::specs::Options::option_of))]
 fn bars(given: &ArgMatches<'_>, task: TaskName, option: &OptionRow) -> bool
     ensures { result ≡ bars (given_in given.now) task (option_of option.now) }
 {
@@ -56,6 +58,7 @@ fn is_unwanted(given: &ArgMatches<'_>, task: TaskName) -> bool
 }
 
 // Whether an option is given with a value that is none of its values.
+#[tactic(auto, unfolding(crate::specs::Rules::misreads, crate::specs::Options::option_of))]
 fn misreads(given: &ArgMatches<'_>, option: &OptionRow) -> bool
     ensures { result ≡ misreads (given_in given.now) (option_of option.now) }
 {
@@ -99,7 +102,11 @@ fn has_fixed_range(side: &Named) -> bool
 fn has_fixed_side(given: &ArgMatches<'_>) -> bool
     ensures { result ≡ either_side has_fixed_range (given_in given.now) }
 {
-    source(given).is_some_and(|side| has_fixed_range(&side)) || has_fixed_range(&target(given))
+    let named = match source(given) {
+        Some(side) => has_fixed_range(&side),
+        None => false,
+    };
+    named || has_fixed_range(&target(given))
 }
 
 // Whether a side is RGB or has a palette, and its range is limited.
@@ -115,7 +122,11 @@ fn has_rgb_range(side: &Named) -> bool
 fn has_rgb_side(given: &ArgMatches<'_>) -> bool
     ensures { result ≡ either_side has_rgb_range (given_in given.now) }
 {
-    source(given).is_some_and(|side| has_rgb_range(&side)) || has_rgb_range(&target(given))
+    let named = match source(given) {
+        Some(side) => has_rgb_range(&side),
+        None => false,
+    };
+    named || has_rgb_range(&target(given))
 }
 
 // Whether a format has a form in a YUV4MPEG2 stream.
@@ -172,6 +183,7 @@ fn conversion(given: &ArgMatches<'_>) -> Convert
 }
 
 /// The task that is asked for, or the first rule after the one on the words that is broken.
+#[tactic(auto, unfolding(crate::specs::Rules::task_by))]
 pub fn task_by(given: &ArgMatches<'_>) -> Result<Task, UsageFault>
     ensures value { result ≡ task_by (given_in given.now) }
     ensures sound { IfOk result IsSound }

@@ -34,6 +34,7 @@ fn given<'a>(alloc: Global, words: &'a [String]) -> Result<ArgMatches<'a>, Error
 
 /// The task that the words ask for, or the first rule that they break. The words do not begin with the program's name.
 /// Want of memory may come at any words.
+#[tactic(auto, unfolding(crate::specs::Rules::task_of))]
 pub fn read_words(alloc: Global, words: &[String]) -> Result<Task, WordsEnd>
     ensures task { IfOk result (λ task. task_of (map string_bytes words.now) ≡ Ok task) }
     ensures fault { IfErr result (EndsBy (task_of (map string_bytes words.now))) }
