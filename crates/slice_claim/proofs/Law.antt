@@ -20,9 +20,11 @@ later_lawful count next h f = record {
 }
 
 -- what is true of each hand stays so where one is changed
-hands_set : (P : HandState → Type 0) (seats : List HandState) (id : ℕ) (w : HandState) → ((j : ℕ) (u : HandState) → get_elem? seats j ≡ some u → P u) → P w
+hands_set : (P : HandState → Type 0) (seats : List HandState) (id : ℕ) (w : HandState)
+    → ((j : ℕ) (u : HandState) → get_elem? seats j ≡ some u → P u) → P w
     → (j : ℕ) (u : HandState) → get_elem? (set seats id w) j ≡ some u → P u
-hands_set P seats id w old new j u e = ⊎_elim (λ (t : (j ≡ id) × (w ≡ u)). subst P t.1 new) (λ (t : (j ≢ id) × (get_elem? seats j ≡ some u)). old j u t.1) (at_set seats id j w u e)
+hands_set P seats id w old new j u e = ⊎_elim (λ (t : (j ≡ id) × (w ≡ u)). subst P t.1 new) (λ (t : (j ≢ id)
+    × (get_elem? seats j ≡ some u)). old j u t.1) (at_set seats id j w u e)
 
 holds_none : (k : ℕ) (h : HandState) → h.held ≡ None → holds_slice k h ≡ 0
 holds_none k h e = ap (only_some k) e
@@ -45,8 +47,21 @@ claimed s id h l at live free true is =
       shares = omega (arith, total-set share_of s.seats id h w at, l.shares);
       few = omega arith;
       each = hands_set (IsLawfulHand s.count (s.next + 1)) s.seats id w (λ j u e. later_lawful s.count s.next u (l.each j u e))
-          (record { drawn_before = omega arith; holds_last = refl; spent_past = λ e. absurd (false≢true (sym free.0 ∙ e)); ended_idle = λ e. absurd (omega arith) });
-      once = λ k. omega (arith, total-set (holds_slice k) s.seats id h w at, holds_none k h free.1, l.once k, once-more s.next k, ap (λ (m : ℕ). once_below m k) least, ap (λ (m : ℕ). once_below m k) least');
+          (record {
+            drawn_before = omega arith;
+            holds_last = refl;
+            spent_past = λ e. absurd (false≢true (sym free.0 ∙ e));
+            ended_idle = λ e. absurd (omega arith);
+          });
+      once = λ k. omega (
+        arith,
+        total-set (holds_slice k) s.seats id h w at,
+        holds_none k h free.1,
+        l.once k,
+        once-more s.next k,
+        ap (λ (m : ℕ). once_below m k) least,
+        ap (λ (m : ℕ). once_below m k) least',
+      );
     }
 claimed s id h l at live free false is =
     let past : s.count ≤ s.next = ltb-false s.next s.count is in
@@ -57,35 +72,65 @@ claimed s id h l at live free false is =
       shares = omega (arith, total-set share_of s.seats id h w at, l.shares);
       few = omega (arith, total-set spent_share s.seats id h w at, not_spent h free.0, l.few);
       each = hands_set (IsLawfulHand s.count (s.next + 1)) s.seats id w (λ j u e. later_lawful s.count s.next u (l.each j u e))
-          (record { drawn_before = omega arith; holds_last = holds_nothing h.held _ free.1; spent_past = λ e. (omega arith, free.1); ended_idle = λ e. absurd (omega arith) });
-      once = λ k. omega (arith, total-set (holds_slice k) s.seats id h w at, l.once k, ap (λ (m : ℕ). once_below m k) least, ap (λ (m : ℕ). once_below m k) least');
+          (record {
+            drawn_before = omega arith;
+            holds_last = holds_nothing h.held _ free.1;
+            spent_past = λ e. (omega arith, free.1);
+            ended_idle = λ e. absurd (omega arith);
+          });
+      once = λ k. omega (
+        arith,
+        total-set (holds_slice k) s.seats id h w at,
+        l.once k,
+        ap (λ (m : ℕ). once_below m k) least,
+        ap (λ (m : ℕ). once_below m k) least',
+      );
     }
 
-pub claim_lawful : (s : ClaimState) (id : ℕ) (h : HandState) → IsLawful s → get_elem? s.seats id ≡ some h → IsLive h → IsFree h → IsLawful (after_claim s id h)
+pub claim_lawful : (s : ClaimState) (id : ℕ) (h : HandState) → IsLawful s → get_elem? s.seats id ≡ some h → IsLive h → IsFree h
+    → IsLawful (after_claim s id h)
 claim_lawful s id h l at live free = claimed s id h l at live free (ltb s.next s.count) refl
 
-pub finish_lawful : (s : ClaimState) (id slice : ℕ) (h : HandState) → IsLawful s → get_elem? s.seats id ≡ some h → h.held ≡ Some slice → IsLawful (after_finish s id slice h)
+pub finish_lawful : (s : ClaimState) (id slice : ℕ) (h : HandState) → IsLawful s → get_elem? s.seats id ≡ some h → h.held ≡ Some slice
+    → IsLawful (after_finish s id slice h)
 finish_lawful s id slice h l at has =
     let f = l.each id h at in
     record {
       shares = omega (arith, total-set share_of s.seats id h (emptied h) at, l.shares);
       few = omega (arith, total-set spent_share s.seats id h (emptied h) at, l.few);
       each = hands_set (IsLawfulHand s.count s.next) s.seats id (emptied h) l.each
-          (record { drawn_before = f.drawn_before; holds_last = tt; spent_past = λ e. ((f.spent_past e).0, refl); ended_idle = λ e. ap emptied (f.ended_idle e) });
+          (record {
+            drawn_before = f.drawn_before;
+            holds_last = tt;
+            spent_past = λ e. ((f.spent_past e).0, refl);
+            ended_idle = λ e. ap emptied (f.ended_idle e);
+          });
       once = λ k. omega (arith, total-set (holds_slice k) s.seats id h (emptied h) at, ap (only_some k) has, l.once k);
     }
 
-pub split_lawful : (s : ClaimState) (id give : ℕ) (h : HandState) → IsLawful s → get_elem? s.seats id ≡ some h → IsFree h → 1 ≤ give → give < h.share → IsLawful (after_split s id give h)
+pub split_lawful : (s : ClaimState) (id give : ℕ) (h : HandState) → IsLawful s → get_elem? s.seats id ≡ some h → IsFree h → 1 ≤ give
+    → give < h.share → IsLawful (after_split s id give h)
 split_lawful s id give h l at free some_share less =
     let w = kept give h in
     let f = l.each id h at in
     let rest = set s.seats id w in
     record {
       shares = omega (arith, total-set share_of s.seats id h w at, total-append share_of rest (fresh give ∷ []), l.shares);
-      few = omega (arith, total-set spent_share s.seats id h w at, total-append spent_share rest (fresh give ∷ []), not_spent h free.0, l.few);
+      few = omega (
+        arith,
+        total-set spent_share s.seats id h w at,
+        total-append spent_share rest (fresh give ∷ []),
+        not_spent h free.0,
+        l.few,
+      );
       each = λ j u e. ⊎_elim
           (λ was. hands_set (IsLawfulHand s.count s.next) s.seats id w l.each
-          (record { drawn_before = f.drawn_before; holds_last = f.holds_last; spent_past = λ e. absurd (false≢true (sym free.0 ∙ e)); ended_idle = λ e. absurd (omega arith) }) j u was)
+          (record {
+            drawn_before = f.drawn_before;
+            holds_last = f.holds_last;
+            spent_past = λ e. absurd (false≢true (sym free.0 ∙ e));
+            ended_idle = λ e. absurd (omega arith);
+          }) j u was)
           (λ (same : fresh give ≡ u). subst (IsLawfulHand s.count s.next) same
           (record { drawn_before = tt; holds_last = tt; spent_past = λ e. absurd (false≢true e); ended_idle = λ e. absurd (omega arith) }))
           (at_snoc rest (fresh give) u j e);
@@ -118,7 +163,13 @@ join_lawful s into from h g l apart at live free at' live' free' =
     let there : get_elem? first from ≡ some g = set_else s.seats into from w (λ e. apart (sym e)) ∙ at' in
     record {
       shares = omega (arith, total-set share_of s.seats into h w at, total-set share_of first from g ended there, l.shares);
-      few = omega (arith, total-set spent_share s.seats into h w at, total-set spent_share first from g ended there, spent_both h.spent g.spent h.share g.share, l.few);
+      few = omega (
+        arith,
+        total-set spent_share s.seats into h w at,
+        total-set spent_share first from g ended there,
+        spent_both h.spent g.spent h.share g.share,
+        l.few,
+      );
       each = hands_set (IsLawfulHand s.count s.next) first from ended
           (hands_set (IsLawfulHand s.count s.next) s.seats into w l.each
           (record {
@@ -128,7 +179,13 @@ join_lawful s into from h g l apart at live free at' live' free' =
             ended_idle = λ e. absurd (omega arith);
           }))
           (record { drawn_before = tt; holds_last = tt; spent_past = λ e. absurd (false≢true e); ended_idle = λ e. refl });
-      once = λ k. omega (arith, total-set (holds_slice k) s.seats into h w at, total-set (holds_slice k) first from g ended there, holds_none k g free', l.once k);
+      once = λ k. omega (
+        arith,
+        total-set (holds_slice k) s.seats into h w at,
+        total-set (holds_slice k) first from g ended there,
+        holds_none k g free',
+        l.once k,
+      );
     }
 
 -- each event leads from a lawful state to a lawful state
@@ -137,7 +194,8 @@ keeps_lawful s t (claim id) l step = subst IsLawful (sym step.4) (claim_lawful s
 keeps_lawful s t (work id slice) l step = subst IsLawful (sym step.3) l
 keeps_lawful s t (finish id slice) l step = subst IsLawful (sym step.3) (finish_lawful s id slice step.0 l step.1 step.2)
 keeps_lawful s t (split id give) l step = subst IsLawful (sym step.5) (split_lawful s id give step.0 l step.1 step.2 step.3 step.4)
-keeps_lawful s t (join into from) l step = subst IsLawful (sym step.9) (join_lawful s into from step.0 step.1 l step.2 step.3 step.4 step.5 step.6 step.7 step.8)
+keeps_lawful s t (join into from) l step = subst IsLawful (sym step.9)
+    (join_lawful s into from step.0 step.1 l step.2 step.3 step.4 step.5 step.6 step.7 step.8)
 
 pub lone : {A : Type 0} (x u : A) (j : ℕ) → get_elem? (x ∷ []) j ≡ some u → x ≡ u
 lone x u zero e = some-injective x u e
@@ -162,10 +220,12 @@ spent_le h = by_spent h.spent h.share
 pub next_bounded : (s : ClaimState) → IsLawful s → s.next ≤ s.count + s.hands
 next_bounded s l = omega (arith, l.few, l.shares, total_le spent_share share_of spent_le s.seats)
 
-pub shares_within : (s : ClaimState) (i j : ℕ) (h g : HandState) → IsLawful s → j ≢ i → get_elem? s.seats i ≡ some h → get_elem? s.seats j ≡ some g → h.share + g.share ≤ s.hands
+pub shares_within : (s : ClaimState) (i j : ℕ) (h g : HandState) → IsLawful s → j ≢ i → get_elem? s.seats i ≡ some h
+    → get_elem? s.seats j ≡ some g → h.share + g.share ≤ s.hands
 shares_within s i j h g l apart at there = omega (arith, terms_le share_of s.seats i j h g apart at there, l.shares)
 
-pub held_apart : (s : ClaimState) (i j k : ℕ) (h g : HandState) → IsLawful s → get_elem? s.seats i ≡ some h → get_elem? s.seats j ≡ some g → h.held ≡ Some k → g.held ≡ Some k → ¬ (j ≢ i)
+pub held_apart : (s : ClaimState) (i j k : ℕ) (h g : HandState) → IsLawful s → get_elem? s.seats i ≡ some h
+    → get_elem? s.seats j ≡ some g → h.held ≡ Some k → g.held ≡ Some k → ¬ (j ≢ i)
 held_apart s i j k h g l at there has has' apart =
     let mine : holds_slice k h ≡ 1 = ap (only_some k) has ∙ only_here k in
     let theirs : holds_slice k g ≡ 1 = ap (only_some k) has' ∙ only_here k in

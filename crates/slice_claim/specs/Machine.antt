@@ -1,4 +1,4 @@
--- The claim machine. Numbers are drawn one after the other. The slice of a drawn number is held by the hand that drew it, and then it is done.
+-- The claim machine. Numbers are drawn one after the other. The slice of a drawn number is held by the hand that drew it, and then done.
 use Rattle.std.specs.Prelude.{◌≡◌, ◌≢◌, ℕ, ◌+◌, ◌-◌, ◌<◌, ◌≤◌, Bool, true, false, ◌||◌, ◌==◌, if◌then◌else◌, nat_lt, min, max}
 use Rattle.std.specs.Prelude.{Option, Some, None, IfSome, List, [], ◌∷◌, ◌++◌, slice_set}
 use mathlib.Core.Option.{some}
@@ -21,7 +21,7 @@ pub record ClaimState : Type 0 where
   pub seats : List HandState
 
 -- what happens; a hand is named by its place in the list of hands:
--- a hand claims; a hand works on a slice; a hand finishes a slice; a hand gives a part of its share to a new hand; a second hand joins a first
+-- a hand claims; works on a slice; finishes a slice; gives a part of its share to a new hand; a second hand joins a first
 pub data Event : Type 0 where
   claim : ℕ → Event
   work : ℕ → ℕ → Event

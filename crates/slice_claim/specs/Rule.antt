@@ -7,6 +7,7 @@ use Rattle.atomic_table.specs.Table.{State, Me, Step, rest}
 use Rattle.slice_claim.specs.Machine.{HandState, ClaimState, Event, Reaches, start, IsLive, drawn, emptied, kept, fresh, joined}
 use Rattle.slice_claim.specs.Machine.{times_held, times_done, IsLawful}
 use Rattle.slice_claim.specs.declared.view.View.{View}
+use Rattle.slice_claim.specs.declared.view.Terms.{Terms}
 
 -- what a hand knows, with another state of the hand
 abbrev pub view_with : View → HandState → View
@@ -69,11 +70,19 @@ pub record ShowsLawful {J : Type 0} (number_of : J → ℕ) (origin : J → List
   pub lawful : IsLawful state
   pub shows : Shows number_of origin done hands origins state s
 
+-- the table of a board that was made with these terms
+abbrev pub IsBoard : {J : Type 0} → (J → ℕ) → (J → List ℕ) → (J → Type 0) → Terms J → State (Option J) View → Type 0
+IsBoard number_of origin done terms = ShowsLawful number_of origin done terms.hands (map origin terms.jobs.value.items)
+
+-- what its first hand knows
+abbrev pub first_of : {J : Type 0} → (J → List ℕ) → Terms J → View
+first_of origin terms = first_view terms.hands (map origin terms.jobs.value.items)
+
 -- the number is above the last one, where there is one
 abbrev pub IsAbove : Option ℕ → ℕ → Type 0
 IsAbove last number = IfSome last (λ k. k < number)
 
--- a claim: the hand drew the number found, above its last one, and has the slot of that number, where there is one, with the job that was given
+-- a claim: the hand drew the number found, above its last one, and has the slot of that number, where there is one, with its job as given
 abbrev pub Draws : {J : Type 0} → (J → ℕ) → (J → List ℕ) → Step (Option J) → Me (Option J) View → ℕ → Me (Option J) View → Type 0
 Draws {J} number_of origin st m number n =
     (n.0 ≡ view_with m.0 (drawn st.slots number m.0.hand)) × IsAbove m.0.hand.last number

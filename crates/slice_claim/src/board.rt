@@ -1,9 +1,9 @@
 // The board: jobs in slots, and a word that says which is next.
-ghost use Rattle.std.specs.Prelude.{◌≡◌, ◌≤◌, ◌<◌, ◌^◌, ℕ, vec_len, slice_index_or};
-ghost use Rattle.std.specs.Prelude.{true, false, None, Some, IfOk, map};
+ghost use Rattle.std.specs.Prelude.{◌≡◌, ◌≤◌, ◌<◌, ◌^◌, vec_len};
+ghost use Rattle.std.specs.Prelude.{true, None, Some, IfOk, map};
 ghost use Rattle.std.specs.Vec.{vec_capacity};
 ghost use Rattle.std.specs.Mem.Slots.{slots_items, slots_filled, slots_len, IsFull};
-ghost use Rattle.slice_claim.specs.Slots.{AreFull, AreMovedOut};
+ghost use Rattle.slice_claim.specs.Slots.{AreFull, AreMovedOut, AreEmpty};
 
 use crate::hand::Hand;
 use crate::held::Held;
@@ -55,7 +55,7 @@ fn take_all<J>(closed: &mut Closed<Option<J>, Global>, jobs: &mut Vec<J>, count:
     requires full { AreFull (slots_items closed.old.slots) count }
     requires room { (vec_len jobs.old ≡ 0) × (count ≤ vec_capacity jobs.old) }
     ensures jobs { AreMovedOut (slots_items closed.old.slots) jobs.new.items count }
-    ensures empty { (k : ℕ) → k < slots_len closed.new.slots → slice_index_or (slots_filled closed.new.slots) k false ≡ false }
+    ensures empty { AreEmpty (slots_filled closed.new.slots) (slots_len closed.new.slots) }
 {
     for k in 0..count {
         jobs.push_reserved(closed.take(k as usize).unwrap());

@@ -1,4 +1,5 @@
-// Empty room for the jobs of a board that is closed. It lies in a table, so that threads may share it where a job may only move.
+// Empty room for the jobs of a board that is closed. It lies in a table, so that threads may share
+// it where a job may only move.
 ghost use Rattle.std.specs.Prelude.{◌≡◌, ◌≤◌, IfOk, vec_len};
 ghost use Rattle.std.specs.Vec.{vec_capacity};
 ghost use Rattle.slice_claim.specs.Room.{HasRoom};

@@ -1,7 +1,7 @@
 // The rule of a board's table, and the names of its steps.
-ghost use Rattle.std.specs.Prelude.{ℕ, map};
-ghost use Rattle.slice_claim.specs.Rule.{ShowsLawful, Draws, Finishes};
-ghost use Rattle.slice_claim.specs.Rule.{first_view, kept_view, given_view, joined_view, ended_view};
+ghost use Rattle.std.specs.Prelude.{ℕ};
+ghost use Rattle.slice_claim.specs.Rule.{IsBoard, first_of, Draws, Finishes};
+ghost use Rattle.slice_claim.specs.Rule.{kept_view, given_view, joined_view, ended_view};
 
 use crate::view::{Terms, View};
 use crate::work::Work;
@@ -14,9 +14,9 @@ pub struct BoardRule<J> {
 }
 
 impl<J: Work> TableRule<Option<J>, View, Terms<J>> for BoardRule<J> {
-    ghost holds = { λ terms. ShowsLawful J.number_of J.origin J.is_done terms.hands (map J.origin terms.jobs.value.items) };
+    ghost holds = { IsBoard J.number_of J.origin J.is_done };
 
-    ghost first = { λ terms. first_view terms.hands (map J.origin terms.jobs.value.items) };
+    ghost first = { first_of J.origin };
 }
 
 // Draws the next number, and takes its slot, where there is one.

@@ -64,8 +64,9 @@ fn draw(rt: &impl Abort, board: &Board<Doubling>, hand: &mut Hand<Doubling>) -> 
     requires free { IsFree (hand_state hand.old) }
     ensures own { IsHandOf ⟦<Doubling as Work>⟧.origin board.now hand.new }
     ensures share { (hand_state hand.new).share ≡ (hand_state hand.old).share }
-    ensures holds { ((hand_state hand.new).held ≡ Some result.number) × ((hand_state hand.new).spent ≡ false) }
-    ensures job { IsJobOf ⟦<Doubling as Work>⟧.number_of ⟦<Doubling as Work>⟧.origin board.now result.number result.job }
+    ensures holds { (hand_state hand.new).held ≡ Some result.number }
+    ensures not_spent { (hand_state hand.new).spent ≡ false }
+    ensures job { IsJobOf (λ j. j.number) (λ j. j.given ∷ []) board.now result.number result.job }
 {
     match board.claim(hand) {
         Some(held) => held,
@@ -90,8 +91,9 @@ fn find_none(rt: &impl Abort, board: &Board<Doubling>, hand: &mut Hand<Doubling>
 // The hand's job is done, and its share is as it was.
 fn give_back(board: &Board<Doubling>, hand: &mut Hand<Doubling>, mut held: Held<Doubling>)
     requires own { IsHandOf ⟦<Doubling as Work>⟧.origin board.now hand.old }
-    requires holds { ((hand_state hand.old).held ≡ Some held.number) × ((hand_state hand.old).spent ≡ false) }
-    requires job { IsJobOf ⟦<Doubling as Work>⟧.number_of ⟦<Doubling as Work>⟧.origin board.now held.number held.job }
+    requires holds { (hand_state hand.old).held ≡ Some held.number }
+    requires not_spent { (hand_state hand.old).spent ≡ false }
+    requires job { IsJobOf (λ j. j.number) (λ j. j.given ∷ []) board.now held.number held.job }
     ensures own { IsHandOf ⟦<Doubling as Work>⟧.origin board.now hand.new }
     ensures share { (hand_state hand.new).share ≡ (hand_state hand.old).share }
     ensures free { IsFree (hand_state hand.new) }

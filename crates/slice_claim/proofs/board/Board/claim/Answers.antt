@@ -9,7 +9,8 @@ fetch_add-number-requires g c =
     let hand = c.args.hand.now in (
       c.requires.own.0,
       omega (arith, board.two_words),
-      claims g.J.Work.number_of g.J.Work.origin g.J.Work.is_done board.table.shared.key.hands (map g.J.Work.origin board.table.shared.key.jobs.value.items) board.table.shared.table_id.slots hand.seat.id hand.seat.me
+      claims g.J.Work.number_of g.J.Work.origin g.J.Work.is_done board.table.shared.key.hands
+          (map g.J.Work.origin board.table.shared.key.jobs.value.items) board.table.shared.table_id.slots hand.seat.id hand.seat.me
           hand.live c.requires.free,
     )
 

@@ -14,6 +14,7 @@ join_seat-requires g c =
       c.requires.own.1.0,
       none_out from.seat.me.1 (from.carries ∙ ap option_to_list c.requires.idle.1),
       omega (arith, board.two_words),
-      joins work.number_of work.origin work.is_done key.hands (map work.origin key.jobs.value.items) into.seat.id from.seat.id into.seat.me.0 from.seat.me.0
+      joins work.number_of work.origin work.is_done key.hands
+          (map work.origin key.jobs.value.items) into.seat.id from.seat.id into.seat.me.0 from.seat.me.0
           into.live c.requires.idle.0 from.live c.requires.idle.1,
     )

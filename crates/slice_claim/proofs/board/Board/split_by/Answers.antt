@@ -10,6 +10,7 @@ split_seat-seat-requires g c =
     let key = board.table.shared.key in (
       c.requires.own.0,
       omega (arith, board.two_words),
-      splits work.number_of work.origin work.is_done key.hands (map work.origin key.jobs.value.items) seat.id g.G.Gift.amount seat.me.0 c.requires.free
+      splits work.number_of work.origin work.is_done key.hands
+          (map work.origin key.jobs.value.items) seat.id g.G.Gift.amount seat.me.0 c.requires.free
           (omega (arith, c.requires.give.0, c.requires.give.2)) (omega (arith, c.requires.give.1, c.requires.give.2)),
     )
