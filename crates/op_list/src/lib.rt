@@ -5,6 +5,7 @@ mod apply;
 mod convert;
 mod fault;
 mod fractions;
+mod identity;
 mod laws;
 mod list;
 mod numbers;
@@ -20,6 +21,7 @@ mod typing;
 mod values;
 
 pub use fault::PushFault;
+pub use identity::is_identity_row;
 pub use laws::{
     applies_exactly, applies_where_it_fits, crosses_threads, elements_make_frame, reads_in_order,
     runs_exactly, runs_in_parts, runs_where_it_fits,
