@@ -1,6 +1,7 @@
 pub mod Apply
 pub mod Checked
 pub mod Fits
+pub mod Identity
 pub mod Laws
 pub mod Pixel
 pub mod Run

@@ -9,6 +9,7 @@ mod apply;
 mod entries;
 mod fault;
 mod fractions;
+mod identity;
 pub mod laws;
 mod list;
 mod numbers;
@@ -26,6 +27,7 @@ mod values;
 
 pub use fault::PushFault;
 pub use fractions::{greater, lesser};
+pub use identity::is_identity_row;
 pub use list::{MAX_OPERATIONS, OpList};
 pub use numbers::total;
 pub use op::Op;
