@@ -24,9 +24,9 @@ use Rattle.sws_run.specs.declared.ended.Ended.TheVariants.{Done, Stream, TooMany
 use Rattle.sws_run.specs.declared.ended.StreamFault.TheVariants.{Truncated}
 use Rattle.pix_io.specs.Streams.{AppendsPart}
 use Rattle.desc_table.proofs.Rows.{valid_at}
+use Rattle.pix_meaning.specs.declared.pair.Pair.{Pair}
 use Rattle.pix_meaning.specs.Target.{target_frame}
-use Rattle.sws_run.specs.declared.convert.Conversion.{Conversion}
-use Rattle.sws_run.specs.Conversion.{IsConversionOf}
+use Rattle.sws_run.specs.Sides.{pair_of}
 use Rattle.sws_run.specs.Line.{IsSound}
 use Rattle.sws_run.specs.Stream.{source_length, frame_count, frame_at, target_of, target_frames, cut_end}
 use Rattle.sws_run.proofs.Taken.{HasTaken}
@@ -180,21 +180,20 @@ unfolding source_length
 frame_some task sound =
     frame-some (desc_of task.source) task.width task.height (valid_at task.source sound.source) (omega (arith, sound.width_least)) (omega (arith, sound.height_least))
 
--- the lengths of the frames of a task's conversion
-pub source_length_is : (task : Task) (conversion : Conversion) → IsConversionOf task conversion
-    → source_length task ≡ frame_length conversion.pair.from.desc conversion.width conversion.height
+-- the lengths of the frames of a task's pair
+pub source_length_is : (task : Task) (pair : Pair) → pair ≡ pair_of task → source_length task ≡ frame_length pair.from.desc task.width task.height
 unfolding source_length
-source_length_is task conversion is = rw (is.pair, is.width, is.height) refl
+source_length_is task pair is = rw is refl
 
-pub target_length_is : (task : Task) (conversion : Conversion) → IsConversionOf task conversion
-    → frame_length (desc_of task.target) task.width task.height ≡ frame_length conversion.pair.to.desc conversion.width conversion.height
-target_length_is task conversion is = rw (is.pair, is.width, is.height) refl
+pub target_length_is : (task : Task) (pair : Pair) → pair ≡ pair_of task
+    → frame_length (desc_of task.target) task.width task.height ≡ frame_length pair.to.desc task.width task.height
+target_length_is task pair is = rw is refl
 
--- its target frames are the task's
-pub target_is : (task : Task) (conversion : Conversion) (frame out : List ℕ) → IsConversionOf task conversion
-    → out ≡ target_frame conversion.pair conversion.width conversion.height frame → out ≡ target_of task frame
+-- the target frame that a task asks for
+pub target_is : (task : Task) (pair : Pair) (frame out : List ℕ) → pair ≡ pair_of task
+    → out ≡ target_frame pair task.width task.height frame → out ≡ target_of task frame
 unfolding target_of
-target_is task conversion frame out is made = made ∙ rw (is.pair, is.width, is.height) refl
+target_is task pair frame out is made = made ∙ rw is refl
 
 pub at_end : (task : Task) (a b c : Option (List ℕ)) (k : ℕ) → 0 < source_length task → k ≤ 1000000 → HasTaken a b (k * source_length task) → Consumes b c [] → IsAtEnd c
     → IfSome a (λ x. (frame_count task x ≡ k) × (Done k ≡ cut_end task x))

@@ -10,7 +10,7 @@ use Rattle.pix_meaning.specs.declared.pair.Pair.{Pair}
 use Rattle.pix_meaning.specs.Pairs.{is_rgb}
 use Rattle.desc_table.specs.Format.{desc_of, name_of}
 use Rattle.sws_run.specs.declared.words.Task.{Task}
-use Rattle.sws_run.specs.Evaluated.{side_at}
+use Rattle.row_plan.specs.Evaluated.{side_at}
 
 -- a format of luma and chroma
 abbrev pub has_chroma : Desc → Bool

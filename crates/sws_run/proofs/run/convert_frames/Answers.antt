@@ -66,12 +66,12 @@ returns-in-Err-write_all-clause-write_fault g c =
     let k = c.loop-done.done in
     let frame = c.read_whole.new.buf in
     let t = rw c.in-Ok-Whole.field-0-is at c.in-Ok-Whole.ensures.taken in
-    let is = target_is task c.args.conversion.now frame c.convert_frame.new.output c.requires.conversion c.convert_frame.ensures in
+    let is = target_is task c.args.plan.now.pair frame c.convert_rows.new.output c.requires.plan c.convert_rows.ensures in
     let part = c.in-Err-write_all.ensures.part_appended in
     record {
       cause = search rules;
       output = written_part task (g.S.Source.left c.args.input.now) (g.K.Sink.written c.args.output.now) (g.K.Sink.written c.loop-done.output) (g.K.Sink.written c.write_all.new.output)
-          k part.0 frame c.convert_frame.new.output c.loop-done.invariant.written
+          k part.0 frame c.convert_rows.new.output c.loop-done.invariant.written
           (whole_frame task _ _ _ k frame (frame_some task c.requires.sound) c.loop-done-test.true (omega arith) c.loop-done.invariant.taken t)
           is part.1 part.2;
     }
@@ -82,12 +82,12 @@ loop-done-preserved g c =
     let k = c.loop-done.done in
     let frame = c.read_whole.new.buf in
     let t = rw c.in-Ok-Whole.field-0-is at c.in-Ok-Whole.ensures.taken in
-    let is = target_is task c.args.conversion.now frame c.convert_frame.new.output c.requires.conversion c.convert_frame.ensures in
+    let is = target_is task c.args.plan.now.pair frame c.convert_rows.new.output c.requires.plan c.convert_rows.ensures in
     let here = whole_frame task _ _ _ k frame (frame_some task c.requires.sound) c.loop-done-test.true (omega arith) c.loop-done.invariant.taken t in
     record {
       taken = whole_taken task _ _ _ k frame (omega arith) c.loop-done.invariant.taken t;
       written = written_more task (g.S.Source.left c.args.input.now) (g.K.Sink.written c.args.output.now) (g.K.Sink.written c.loop-done.output) (g.K.Sink.written c.write_all.new.output)
-          k frame c.convert_frame.new.output c.loop-done.invariant.written here is c.in-Ok.ensures.appended;
+          k frame c.convert_rows.new.output c.loop-done.invariant.written here is c.in-Ok.ensures.appended;
       reads = search rules;
       writes = search rules;
       source_made = search rules;
@@ -131,11 +131,8 @@ returns-in-Err-read_whole-clause-read_fault g c =
       output = written_some task _ _ _ _ 1000000 (frame_some task c.requires.sound) (omega arith) (rw k at c.loop-done.invariant.taken) (rw k at c.loop-done.invariant.written);
     }
 
-pub convert_frame-requires-clause-ready : goal.convert_frame-requires-clause-ready
-convert_frame-requires-clause-ready g c = c.requires.conversion.ready
+pub convert_rows-requires-clause-input : goal.convert_rows-requires-clause-input
+convert_rows-requires-clause-input g c = omega (arith, source_length_is c.args.task.now c.args.plan.now.pair c.requires.plan)
 
-pub convert_frame-requires-clause-input : goal.convert_frame-requires-clause-input
-convert_frame-requires-clause-input g c = omega (arith, source_length_is c.args.task.now c.args.conversion.now c.requires.conversion)
-
-pub convert_frame-requires-clause-output : goal.convert_frame-requires-clause-output
-convert_frame-requires-clause-output g c = omega (arith, target_length_is c.args.task.now c.args.conversion.now c.requires.conversion)
+pub convert_rows-requires-clause-output : goal.convert_rows-requires-clause-output
+convert_rows-requires-clause-output g c = omega (arith, target_length_is c.args.task.now c.args.plan.now.pair c.requires.plan)
