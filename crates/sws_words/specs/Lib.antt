@@ -1,0 +1,6 @@
+pub mod Command
+pub mod Given
+pub mod Options
+pub mod Rules
+pub mod Task
+pub mod Values
