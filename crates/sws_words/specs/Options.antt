@@ -1,6 +1,6 @@
 -- The table of options: which tasks have each, when they require it, and which values it takes.
 use Prim.Native.String.{String}
-use Rattle.std.specs.Prelude.{ℕ, Bool, true, false, List, [], ◌∷◌, codes, Option, Some, None}
+use Rattle.std.specs.Prelude.{ℕ, Bool, true, false, not, List, [], ◌∷◌, codes, Option, Some, None}
 use Rattle.sws_words.specs.declared.task.Form.{Form}
 use Rattle.sws_words.specs.declared.task.Form.TheVariants.{Raw, Y4m}
 use Rattle.sws_words.specs.declared.options.TaskName.{TaskName}
@@ -89,5 +89,5 @@ is_barred UnlessStream form = is_stream form
 is_barred WithRaw form = is_stream form
 
 -- what a row of the program's table says
-abbrev pub option_of : OptionRow → CommandOption
+unfoldable pub option_of : OptionRow → CommandOption
 option_of row = record { name = row.name.now; owners = row.owners; need = row.need; values = row.values }

@@ -28,7 +28,7 @@ abbrev pub is_given : List Row → CommandOption → Bool
 is_given given option = is_some (value_of given option.name)
 
 -- Missing: the task has an option, the source's form requires it, and it is not given
-abbrev pub lacks : List Row → TaskName → CommandOption → Bool
+unfoldable pub lacks : List Row → TaskName → CommandOption → Bool
 lacks given name option =
     has_option name option.owners && is_needed option.need (form_given given (codes "from")) && not (is_given given option)
 
@@ -36,7 +36,7 @@ unfoldable pub is_missing : List Row → TaskName → Bool
 is_missing given name = list_any (lacks given name) options
 
 -- Unwanted: an option is given that the task does not have, or that the source's header stands for
-abbrev pub bars : List Row → TaskName → CommandOption → Bool
+unfoldable pub bars : List Row → TaskName → CommandOption → Bool
 bars given name option =
     is_given given option && (not (has_option name option.owners) || is_barred option.need (form_given given (codes "from")))
 
@@ -44,7 +44,7 @@ unfoldable pub is_unwanted : List Row → TaskName → Bool
 is_unwanted given name = list_any (bars given name) options
 
 -- Value: the value of an option is none of its values
-abbrev pub misreads : List Row → CommandOption → Bool
+unfoldable pub misreads : List Row → CommandOption → Bool
 misreads given option = option_map_or (λ text. not (is_value option.values text)) (value_of given option.name) false
 
 unfoldable pub is_misread : List Row → Bool

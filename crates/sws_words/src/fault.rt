@@ -1,4 +1,5 @@
 // Why words give no task.
+ghost use Rattle.std.specs.Prelude.{◌≡◌};
 
 /// What is wrong with the words. Of several faults the one that stands first here is answered.
 #[derive(Clone, Copy, Debug, PartialEq, Eq)]
@@ -33,6 +34,8 @@ pub enum WordsEnd {
 }
 
 impl From<UsageFault> for WordsEnd {
+    ghost use Rattle.sws_words.specs.declared.fault.WordsEnd.TheVariants.{Usage};
+
     ghost from_gives = { λ fault end. end ≡ Usage fault };
 
     fn from(fault: UsageFault) -> WordsEnd {

@@ -10,6 +10,12 @@ use clap::ArgMatches;
 use colour_matrix::{Matrix, Range, named};
 use desc_table::find;
 
+const BT601: Matrix = Matrix {
+    q: 1000,
+    r: 299,
+    b: 114,
+};
+
 /// The value of an option, where it is given.
 pub fn value<'a>(given: &ArgMatches<'a>, name: &str) -> Option<&'a str>
     ensures { option_map (λ text. text.now) result ≡ value_of (given_in given.now) name.now }
@@ -55,11 +61,10 @@ pub fn range(given: &ArgMatches<'_>, name: &str) -> Option<Range>
 pub fn matrix(given: &ArgMatches<'_>, name: &str) -> Matrix
     ensures { result ≡ matrix_given (given_in given.now) name.now }
 {
-    value(given, name).and_then(named).unwrap_or(Matrix {
-        q: 1000,
-        r: 299,
-        b: 114,
-    })
+    match value(given, name) {
+        Some(text) => named(text).unwrap_or(BT601),
+        None => BT601,
+    }
 }
 
 /// A number of a range, where it is given and is one.
@@ -82,6 +87,7 @@ fn side(given: &ArgMatches<'_>, name: &str, matrix_name: &str, range_name: &str)
 }
 
 /// The source, where its format is named.
+#[tactic(auto, unfolding(crate::specs::Given::source_given))]
 pub fn source(given: &ArgMatches<'_>) -> Option<Named>
     ensures { result ≡ source_given (given_in given.now) }
 {
@@ -90,6 +96,7 @@ pub fn source(given: &ArgMatches<'_>) -> Option<Named>
 }
 
 /// The target. Where its format is not named, it finds none.
+#[tactic(auto, unfolding(crate::specs::Given::target_given))]
 pub fn target(given: &ArgMatches<'_>) -> Named
     ensures { result ≡ target_given (given_in given.now) }
 {

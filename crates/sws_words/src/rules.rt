@@ -1,6 +1,6 @@
 // The rules of the command line in their order.
 ghost use Rattle.std.specs.Prelude.{◌≡◌, false, IfOk};
-ghost use Rattle.sws_words.specs.Given.{given_in, target_given};
+ghost use Rattle.sws_words.specs.Given.{given_in};
 ghost use Rattle.sws_words.specs.Options.{option_of};
 ghost use Rattle.sws_words.specs.Rules.{lacks, bars, misreads, is_missing, is_unwanted, is_misread, is_no_frame};
 ghost use Rattle.sws_words.specs.Rules.{has_fixed_range, has_rgb_range, is_stream_format, has_no_stream_form};
@@ -17,6 +17,7 @@ use colour_matrix::Range;
 use desc_table::{FormatId, desc, name};
 
 // Whether the task requires an option that is not given.
+#[tactic(auto, unfolding(crate::specs::Rules::lacks, crate::specs::Options::option_of))]
 fn lacks(given: &ArgMatches<'_>, task: TaskName, option: &OptionRow) -> bool
     ensures { result ≡ lacks (given_in given.now) task (option_of option.now) }
 {
@@ -28,10 +29,16 @@ fn lacks(given: &ArgMatches<'_>, task: TaskName, option: &OptionRow) -> bool
 fn is_missing(given: &ArgMatches<'_>, task: TaskName) -> bool
     ensures { result ≡ is_missing (given_in given.now) task }
 {
-    options().iter().any(|option| lacks(given, task, option))
+    for option in options() {
+        if lacks(given, task, option) {
+            return true;
+        }
+    }
+    false
 }
 
 // Whether an option is given that the task does not have, or that the source's header stands for.
+#[tactic(auto, unfolding(crate::specs::Rules::bars, crate::specs::Options::option_of))]
 fn bars(given: &ArgMatches<'_>, task: TaskName, option: &OptionRow) -> bool
     ensures { result ≡ bars (given_in given.now) task (option_of option.now) }
 {
@@ -42,10 +49,16 @@ fn bars(given: &ArgMatches<'_>, task: TaskName, option: &OptionRow) -> bool
 fn is_unwanted(given: &ArgMatches<'_>, task: TaskName) -> bool
     ensures { result ≡ is_unwanted (given_in given.now) task }
 {
-    options().iter().any(|option| bars(given, task, option))
+    for option in options() {
+        if bars(given, task, option) {
+            return true;
+        }
+    }
+    false
 }
 
 // Whether an option is given with a value that is none of its values.
+#[tactic(auto, unfolding(crate::specs::Rules::misreads, crate::specs::Options::option_of))]
 fn misreads(given: &ArgMatches<'_>, option: &OptionRow) -> bool
     ensures { result ≡ misreads (given_in given.now) (option_of option.now) }
 {
@@ -58,7 +71,12 @@ fn misreads(given: &ArgMatches<'_>, option: &OptionRow) -> bool
 fn is_misread(given: &ArgMatches<'_>) -> bool
     ensures { result ≡ is_misread (given_in given.now) }
 {
-    options().iter().any(|option| misreads(given, option))
+    for option in options() {
+        if misreads(given, option) {
+            return true;
+        }
+    }
+    false
 }
 
 // Whether the size is not that of a frame.
@@ -81,6 +99,16 @@ fn has_fixed_range(side: &Named) -> bool
     }
 }
 
+fn has_fixed_side(given: &ArgMatches<'_>) -> bool
+    ensures { result ≡ either_side has_fixed_range (given_in given.now) }
+{
+    let named = match source(given) {
+        Some(side) => has_fixed_range(&side),
+        None => false,
+    };
+    named || has_fixed_range(&target(given))
+}
+
 // Whether a side is RGB or has a palette, and its range is limited.
 fn has_rgb_range(side: &Named) -> bool
     ensures { result ≡ has_rgb_range side.now }
@@ -91,7 +119,18 @@ fn has_rgb_range(side: &Named) -> bool
     }
 }
 
+fn has_rgb_side(given: &ArgMatches<'_>) -> bool
+    ensures { result ≡ either_side has_rgb_range (given_in given.now) }
+{
+    let named = match source(given) {
+        Some(side) => has_rgb_range(&side),
+        None => false,
+    };
+    named || has_rgb_range(&target(given))
+}
+
 // Whether a format has a form in a YUV4MPEG2 stream.
+#[tactic(auto, unfolding(crate::specs::Rules::is_stream_format))]
 fn is_stream_format(id: FormatId) -> bool
     ensures { result ≡ is_stream_format id }
 {
@@ -112,17 +151,17 @@ fn is_stream_format(id: FormatId) -> bool
 }
 
 // Whether the output is a YUV4MPEG2 stream, where the target's format has no form.
-fn has_no_stream_form(given: &ArgMatches<'_>, target: &Named) -> bool
-    requires { target.now ≡ target_given (given_in given.now) }
+fn has_no_stream_form(given: &ArgMatches<'_>) -> bool
     ensures { result ≡ has_no_stream_form (given_in given.now) }
 {
-    match (form(given, "to"), target.format) {
+    match (form(given, "to"), target(given).format) {
         (Some(Form::Y4m), Ok(id)) => !is_stream_format(id),
         _ => false,
     }
 }
 
 // The conversion that is asked for.
+#[tactic(auto, unfolding(crate::specs::Rules::conversion_given))]
 fn conversion(given: &ArgMatches<'_>) -> Convert
     requires { is_no_frame (given_in given.now) ≡ false }
     ensures { result ≡ conversion_given (given_in given.now) }
@@ -144,6 +183,7 @@ fn conversion(given: &ArgMatches<'_>) -> Convert
 }
 
 /// The task that is asked for, or the first rule after the one on the words that is broken.
+#[tactic(auto, unfolding(crate::specs::Rules::task_by))]
 pub fn task_by(given: &ArgMatches<'_>) -> Result<Task, UsageFault>
     ensures value { result ≡ task_by (given_in given.now) }
     ensures sound { IfOk result IsSound }
@@ -163,15 +203,13 @@ pub fn task_by(given: &ArgMatches<'_>) -> Result<Task, UsageFault>
     if is_no_frame(given) {
         return Err(UsageFault::Size);
     }
-    let source = source(given);
-    let target = target(given);
-    if source.is_some_and(|side| has_fixed_range(&side)) || has_fixed_range(&target) {
+    if has_fixed_side(given) {
         return Err(UsageFault::FixedRange);
     }
-    if source.is_some_and(|side| has_rgb_range(&side)) || has_rgb_range(&target) {
+    if has_rgb_side(given) {
         return Err(UsageFault::RgbRange);
     }
-    if has_no_stream_form(given, &target) {
+    if has_no_stream_form(given) {
         return Err(UsageFault::NotStreamFormat);
     }
     match asked {

@@ -87,6 +87,7 @@ pub fn is_frame_size(width: u128, height: u128) -> bool
 }
 
 /// Whether a text is one of the values.
+#[tactic(auto, unfolding(crate::specs::Values::is_value))]
 pub fn is_value(values: Values, text: &str) -> bool
     ensures { result ≡ is_value values text.now }
 {

@@ -26,13 +26,15 @@ fn given<'a>(alloc: Global, words: &'a [String]) -> Result<ArgMatches<'a>, Error
         .no_binary_name(true)
         .disable_help_flag(true);
     for option in options() {
-        command = command.arg(Arg::new(alloc, option.name).long(option.name))?;
+        let name: &'a str = option.name;
+        command = command.arg(Arg::new(alloc, name).long(name))?;
     }
     command.try_get_matches_from(words)
 }
 
 /// The task that the words ask for, or the first rule that they break. The words do not begin with the program's name.
 /// Want of memory may come at any words.
+#[tactic(auto, unfolding(crate::specs::Rules::task_of))]
 pub fn read_words(alloc: Global, words: &[String]) -> Result<Task, WordsEnd>
     ensures task { IfOk result (λ task. task_of (map string_bytes words.now) ≡ Ok task) }
     ensures fault { IfErr result (EndsBy (task_of (map string_bytes words.now))) }
