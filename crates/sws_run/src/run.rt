@@ -3,28 +3,28 @@ ghost use Rattle.std.specs.Prelude.{◌≡◌, ◌<◌, ◌≤◌, length, Ok};
 ghost use Rattle.pix_desc.specs.Frame.{frame_length};
 ghost use Rattle.desc_table.specs.Format.{desc_of};
 ghost use Rattle.sws_run.specs.Line.{IsSound};
-ghost use Rattle.sws_run.specs.Conversion.{IsConversionOf};
+ghost use Rattle.sws_run.specs.Sides.{pair_of};
 ghost use Rattle.sws_run.specs.Stream.{source_length};
 ghost use Rattle.sws_run.specs.Run.{GivesAnswer, GivesReadFault, GivesWriteFault, GivesOutOfMemory, IsComplete};
 
-use crate::convert::Conversion;
 use crate::words::Task;
 use crate::{Ended, StreamFault};
 use pix_io::{Got, Sink, Source, read_whole, write_all};
+use row_plan::Plan;
 
 const MAX_FRAMES: u32 = 1_000_000;
 
 /// Converts the frames of the input one after the other, in a buffer for a source frame and one for its target frame.
 pub fn convert_frames<S: Source, K: Sink>(
     task: &Task,
-    conversion: &Conversion,
+    plan: &Plan,
     input: &mut S,
     output: &mut K,
     frame: &mut [u8],
     target_frame: &mut [u8],
 ) -> Ended
     requires sound { IsSound task.now }
-    requires conversion { IsConversionOf task.now conversion.now }
+    requires plan { plan.now.pair ≡ pair_of task.now }
     requires frame { length frame.old ≡ source_length task.now }
     requires target_frame { length target_frame.old ≡ frame_length (desc_of task.now.target) task.now.width task.now.height }
 
@@ -49,7 +49,7 @@ pub fn convert_frames<S: Source, K: Sink>(
             }
             Err(_) => return Ended::ReadFault { frames: done },
         }
-        conversion.convert_frame(frame, target_frame);
+        plan.convert_rows(0, task.width, task.height, frame, target_frame);
         match write_all(output, target_frame) {
             Ok(()) => {}
             Err(_) => return Ended::WriteFault { frames: done },

@@ -1,17 +1,18 @@
 // The run of the program, from its words to its ending.
 ghost use Rattle.std.specs.Prelude.{◌≡◌, length, map, string_bytes, IfOk};
 ghost use Rattle.sws_run.specs.Line.{task_of, IsSound};
-ghost use Rattle.sws_run.specs.Conversion.{IsConversionOf};
+ghost use Rattle.sws_run.specs.Sides.{pair_of};
 ghost use Rattle.sws_run.specs.Run.{GivesAnswer, GivesReadFault, GivesWriteFault, GivesOutOfMemory, KeepsNotes, IsComplete};
 
 use crate::Ended;
-use crate::convert::Conversion;
 use crate::run::convert_frames;
 use crate::sides::pair_of;
 use crate::words::{Task, read_task};
 use desc_table::desc;
 use frac_math::OutOfMemory;
+use op_build::BuildFault;
 use pix_io::{Sink, Source, frame_len};
+use row_plan::{Plan, plan};
 use std::alloc::Global;
 use std::thread::Threads;
 
@@ -30,12 +31,16 @@ fn zeros(alloc: Global, len: u64) -> Result<Vec<u8>, OutOfMemory>
     Ok(vec![in alloc; 0; len as usize]?)
 }
 
-// What is made once for the stream of a task.
-fn conversion_of(alloc: Global, task: &Task) -> Result<Conversion, OutOfMemory>
+// The plan of a task, which is made once a stream.
+fn plan_of(alloc: Global, task: &Task) -> Result<Plan, OutOfMemory>
     requires { IsSound task.now }
-    ensures { IfOk result (IsConversionOf task.now) }
+    ensures { IfOk result (λ plan. plan.pair ≡ pair_of task.now) }
 {
-    Conversion::new(alloc, pair_of(task), task.width, task.height)
+    match plan(alloc, &pair_of(task)) {
+        Ok(plan) => Ok(plan),
+        Err(BuildFault::OutOfMemory) => Err(OutOfMemory),
+        Err(BuildFault::PaletteTarget) => unreachable!(),
+    }
 }
 
 /// Runs the converter on the words after the program's name: reads raw frames from the input to its end, at most 1,000,000,
@@ -70,7 +75,7 @@ pub fn run_sws<R: Threads + Sync, S: Source, K: Sink, L: Sink, G: Gate>(
     };
     let source_length = frame_len(&desc(task.source), task.width, task.height);
     let target_length = frame_len(&desc(task.target), task.width, task.height);
-    let Ok(conversion) = conversion_of(alloc, &task) else {
+    let Ok(plan) = plan_of(alloc, &task) else {
         return Ended::OutOfMemory { frames: 0 };
     };
     let Ok(mut frame) = zeros(alloc, source_length) else {
@@ -79,12 +84,5 @@ pub fn run_sws<R: Threads + Sync, S: Source, K: Sink, L: Sink, G: Gate>(
     let Ok(mut target_frame) = zeros(alloc, target_length) else {
         return Ended::OutOfMemory { frames: 0 };
     };
-    convert_frames(
-        &task,
-        &conversion,
-        input,
-        output,
-        &mut frame,
-        &mut target_frame,
-    )
+    convert_frames(&task, &plan, input, output, &mut frame, &mut target_frame)
 }
