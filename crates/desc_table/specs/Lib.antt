@@ -1,5 +1,5 @@
 pub mod Format
 pub mod Refused
+pub mod Lookup
 pub mod Layout
 pub mod Row
-pub mod Names

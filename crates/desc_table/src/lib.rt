@@ -4,7 +4,7 @@
 mod fault;
 mod id;
 pub mod laws;
-mod names;
+mod refused;
 mod table;
 #[cfg(test)]
 mod tests;
