@@ -30,7 +30,8 @@ pub lookup-Ok : (name : List ℕ) (row : ℕ) → lookup name ≡ Ok row → (ro
 unfolding lookup
 lookup-Ok name row is = row_named-Some name row (row_or_fault-Ok _ _ row is)
 
-position_or_len-map : {X Y : Type 0} (f : X → Y) (p : Y → Bool) (xs : List X) → position_or_len p (map f xs) ≡ position_or_len (λ x. p (f x)) xs
+position_or_len-map : {X Y : Type 0} (f : X → Y) (p : Y → Bool) (xs : List X)
+    → position_or_len p (map f xs) ≡ position_or_len (λ x. p (f x)) xs
 position_or_len-map f p [] = refl
 position_or_len-map f p (x ∷ xs) = ap (λ n. cond (not (p (f x))) (1 + n) 0) (position_or_len-map f p xs)
 
@@ -39,7 +40,8 @@ position-map : {X Y : Type 0} (f : X → Y) (p : Y → Bool) (xs : List X) → p
 position-map f p xs = rw (position_or_len-map f p xs, length-map xs f) refl
 
 -- the row of a name in the program's table is that in the table of formats
-pub row_named-rows : (rows : List Row) (name : List ℕ) → map format_of rows ≡ formats → position (λ row. bytes_eq row.name.now name) rows ≡ row_named name
+pub row_named-rows : (rows : List Row) (name : List ℕ) → map format_of rows ≡ formats
+    → position (λ row. bytes_eq row.name.now name) rows ≡ row_named name
 unfolding row_named
 row_named-rows rows name same =
     sym (position-map format_of (λ format. bytes_eq format.name name) rows) ∙ ap (position (λ format. bytes_eq format.name name)) same

@@ -15,18 +15,21 @@ use Rattle.desc_table.specs.Row.{format_of}
 use Rattle.desc_table.specs.declared.table.Row.{Row}
 
 -- two functions that agree on a list agree on each of its elements
-pub agree_at : {X Y : Type 0} (f g : X → Y) (xs : List X) (i : ℕ) (d : X) → map f xs ≡ map g xs → i < length xs → f (get_or xs i d) ≡ g (get_or xs i d)
+pub agree_at : {X Y : Type 0} (f g : X → Y) (xs : List X) (i : ℕ) (d : X) → map f xs ≡ map g xs → i < length xs
+    → f (get_or xs i d) ≡ g (get_or xs i d)
 agree_at f g xs i d same below =
     sym (get_or-map f xs i d (f d) below) ∙ (ap (λ ys. get_or ys i (f d)) same ∙ get_or-map g xs i d (f d) below)
 
 -- two functions that agree on the table agree on each of its formats
-pub agree_at_row : {X : Type 0} (f g : Format → X) → map f formats ≡ map g formats → (row : ℕ) → row < format_count → f (format_at row) ≡ g (format_at row)
+pub agree_at_row : {X : Type 0} (f g : Format → X) → map f formats ≡ map g formats → (row : ℕ) → row < format_count
+    → f (format_at row) ≡ g (format_at row)
 unfolding format_at
 agree_at_row f g same row below =
     agree_at f g formats row _ same below
 
 -- the program's row is the format of the table
-pub format_of-get_or : (rows : List Row) (row : ℕ) (d : Row) → map format_of rows ≡ formats → row < format_count → format_of (slice_index_or rows row d) ≡ format_at row
+pub format_of-get_or : (rows : List Row) (row : ℕ) (d : Row) → map format_of rows ≡ formats → row < format_count
+    → format_of (slice_index_or rows row d) ≡ format_at row
 unfolding format_at
 format_of-get_or rows row d same below =
     let at : row < length rows = omega (arith, length-map rows format_of, ap length same) in

@@ -16,7 +16,8 @@ refuses fault names = map (λ name. record { name = codes name; fault = fault })
 -- refusals of these names in both byte orders
 abbrev pub refuses_both : FormatFault → List String → List Refusal
 refuses_both fault names =
-    flat_map (λ name. record { name = codes name ++ codes "le"; fault = fault } ∷ record { name = codes name ++ codes "be"; fault = fault } ∷ [])
+    flat_map (λ name. record { name = codes name ++ codes "le"; fault = fault } ∷ record { name = codes name ++ codes "be"; fault = fault }
+    ∷ [])
     names
 
 -- the refused names

@@ -26,8 +26,8 @@ impl Model for FormatId {
     ghost inverse = { λ row. record { row = row } };
 }
 
-/// The format of this name, which is FFmpeg's, byte for byte, or why there is none. It allocates nothing, and compares
-/// the name with those of the table in their order.
+/// The format of this name, which is FFmpeg's, byte for byte, or why there is none. It allocates
+/// nothing, and compares the name with those of the table in their order.
 pub fn find(name: &str) -> Result<FormatId, FormatFault>
     ensures value { result ≡ lookup name.now }
     ensures below { IfOk result (λ id. id < format_count) }

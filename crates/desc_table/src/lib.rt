@@ -1,4 +1,5 @@
-//! The pixel formats that are known by name, after FFmpeg's libavutil/pixdesc.c, and the names that are refused.
+//! The pixel formats that are known by name, after FFmpeg's libavutil/pixdesc.c, and the names that
+//! are refused.
 #![tactic(auto)]
 
 mod fault;

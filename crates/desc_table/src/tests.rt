@@ -1,11 +1,12 @@
-// Formats as a reference that was written apart from this program prints them, and the refused names.
+// Formats as a reference that was written apart from this program prints them, and the refused
+// names.
 use crate::FormatFault::{self, Bitstream, FloatFormat, OtherUnsupported, Subsampled, Unknown};
 use crate::{FormatId, at, count, desc, find, index, name};
 use std::alloc::{AllocError, Global};
 use std::test::Fail;
 
-// The name, the flags (big-endian, RGB, alpha, palette), and plane, step, offset, shift and depth of
-// each component. A format that is not here is not tried.
+// The name, the flags (big-endian, RGB, alpha, palette), and plane, step, offset, shift and depth
+// of each component. A format that is not here is not tried.
 #[rattlefmt::skip]
 static TABLE: &[&str] = &[
     "gray - 0,1,0,0,8",
