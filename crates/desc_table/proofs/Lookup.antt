@@ -10,8 +10,7 @@ use Rattle.desc_table.specs.declared.fault.FormatFault.{FormatFault}
 use Rattle.desc_table.specs.declared.refused.Refused.{Refused}
 use Rattle.desc_table.specs.declared.table.Row.{Row}
 use Rattle.desc_table.specs.Format.{Format, formats, format_count, format_at, no_format}
-use Rattle.desc_table.specs.Lookup.{row_named, row_or_fault, lookup}
-use Rattle.desc_table.specs.Refused.{Refusal, refused, fault_or_unknown, fault_named}
+use Rattle.desc_table.specs.Refused.{Refusal, refused, fault_or_unknown, fault_named, row_named, row_or_fault, lookup}
 use Rattle.desc_table.specs.Row.{format_of, refusal_of}
 
 row_or_fault-Ok : (found : Option ℕ) (fault : FormatFault) (row : ℕ) → row_or_fault found fault ≡ Ok row → found ≡ Some row

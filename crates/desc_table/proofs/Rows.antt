@@ -7,8 +7,7 @@ use Rattle.pix_desc.specs.Component.{components}
 use Rattle.std.proofs.lemmas.List.{get_or-map, length-map}
 use Rattle.pix_desc.specs.Layouts.{checked, IsValid}
 use Rattle.desc_table.specs.Format.{Format, four_entries, formats, format_count, format_at, no_format}
-use Rattle.desc_table.specs.Lookup.{lookup, row_named}
-use Rattle.desc_table.specs.Refused.{refused, fault_named}
+use Rattle.desc_table.specs.Refused.{refused, fault_named, row_named, lookup}
 use Rattle.desc_table.specs.declared.fault.FormatFault.{FormatFault}
 use Rattle.desc_table.specs.Layout.{layout_of, word_formats}
 use Rattle.desc_table.specs.Row.{format_of}

@@ -1,6 +1,7 @@
--- The names of FFmpeg's pixel formats that are refused, with the reason (FFmpeg, libavutil/pixdesc.c).
+-- The names of FFmpeg's pixel formats that are refused, with the reason, and what a name finds (FFmpeg, libavutil/pixdesc.c).
 use Prim.Native.String.{String}
-use Rattle.std.specs.Prelude.{ℕ, List, [], ◌∷◌, ◌++◌, map, flat_map, find, codes, bytes_eq, Option, Some, None}
+use Rattle.std.specs.Prelude.{ℕ, List, [], ◌∷◌, ◌++◌, map, flat_map, position, find, codes, bytes_eq, Option, Some, None, Result, Ok, Err}
+use Rattle.desc_table.specs.Format.{formats}
 use Rattle.desc_table.specs.declared.fault.FormatFault.{FormatFault}
 use Rattle.desc_table.specs.declared.fault.FormatFault.TheVariants.{Unknown, Subsampled, FloatFormat, Bitstream, OtherUnsupported}
 
@@ -43,3 +44,16 @@ fault_or_unknown None = Unknown
 -- why a name that is no format's is refused: the fault of the first refused name that it is, else `Unknown`
 unfoldable pub fault_named : List ℕ → FormatFault
 fault_named name = fault_or_unknown (find (λ refusal. bytes_eq refusal.name name) refused)
+
+-- the first row that has this name, counted from 0
+unfoldable pub row_named : List ℕ → Option ℕ
+row_named name = position (λ format. bytes_eq format.name name) formats
+
+-- the row, or else the fault
+abbrev pub row_or_fault : Option ℕ → FormatFault → Result ℕ FormatFault
+row_or_fault (Some row) fault = Ok row
+row_or_fault None fault = Err fault
+
+-- what a name finds: its row in the table, or else why it is refused
+unfoldable pub lookup : List ℕ → Result ℕ FormatFault
+lookup name = row_or_fault (row_named name) (fault_named name)

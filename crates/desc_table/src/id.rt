@@ -2,7 +2,7 @@
 ghost use Rattle.std.specs.Prelude.{◌≡◌, ◌<◌, ◌≤◌, ◌↔◌, ℕ, IsNone, IfSome, IfOk, Ok};
 ghost use Rattle.pix_desc.specs.Layouts.{IsValid};
 ghost use Rattle.desc_table.specs.Format.{format_count, desc_of, name_of};
-ghost use Rattle.desc_table.specs.Lookup.{lookup};
+ghost use Rattle.desc_table.specs.Refused.{lookup};
 
 use crate::fault::FormatFault;
 use crate::refused::fault_named;

@@ -5,8 +5,7 @@ ghost use Rattle.pix_desc.specs.Component.{components};
 ghost use Rattle.pix_desc.specs.Layouts.{checked};
 ghost use Rattle.desc_table.specs.Format.{format_count, four_entries, desc_of, name_of};
 ghost use Rattle.desc_table.specs.Layout.{layout_of};
-ghost use Rattle.desc_table.specs.Refused.{refused};
-ghost use Rattle.desc_table.specs.Lookup.{lookup};
+ghost use Rattle.desc_table.specs.Refused.{refused, lookup};
 
 /// Every format passes the check, and has the layout that is said of its name.
 pub fn layouts()

@@ -1,7 +1,7 @@
 // The table of formats, after FFmpeg's libavutil/pixdesc.c.
 ghost use Rattle.std.specs.Prelude.{◌≡◌, ◌<◌, map, length, position, bytes_eq, IfSome};
 ghost use Rattle.desc_table.specs.Format.{formats, format_count, format_at};
-ghost use Rattle.desc_table.specs.Lookup.{row_named};
+ghost use Rattle.desc_table.specs.Refused.{row_named};
 ghost use Rattle.desc_table.specs.Row.{format_of};
 
 use pix_desc::Comp;

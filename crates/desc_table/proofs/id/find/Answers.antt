@@ -1,7 +1,6 @@
 use Rattle.std.proofs.Common.{sym, ap, ◌∙◌}
 use Rattle.std.specs.Prelude.{Ok, Err}
-use Rattle.desc_table.specs.Lookup.{lookup, row_or_fault}
-use Rattle.desc_table.specs.Refused.{fault_named}
+use Rattle.desc_table.specs.Refused.{fault_named, row_or_fault, lookup}
 use Rattle.desc_table.proofs.Lookup.{row_named-Some}
 use Rattle.desc_table.proofs.id.find.Goals as goal
 

@@ -1,6 +1,6 @@
 use Rattle.std.proofs.Common.{ap}
 use Rattle.desc_table.specs.Format.{Format}
-use Rattle.desc_table.specs.Lookup.{lookup}
+use Rattle.desc_table.specs.Refused.{lookup}
 use Rattle.desc_table.proofs.Rows.{lookup-name_of}
 use Rattle.desc_table.proofs.id.name.Goals as goal
 

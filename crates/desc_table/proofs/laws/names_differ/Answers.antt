@@ -1,6 +1,5 @@
 use Rattle.std.specs.Prelude.{Err}
-use Rattle.desc_table.specs.Lookup.{lookup}
-use Rattle.desc_table.specs.Refused.{Refusal, refused}
+use Rattle.desc_table.specs.Refused.{Refusal, refused, lookup}
 use Rattle.desc_table.proofs.Rows.{agree_at, lookup-name_of, refusals_computed}
 use Rattle.desc_table.proofs.laws.names_differ.Goals as goal
 
