@@ -1,6 +1,6 @@
 -- What a name finds.
-use Rattle.std.proofs.Common.{◌≡◌, ℕ, ◌<◌, ◌+◌, Bool, true, false, not, cond, List, [], ◌∷◌, map, length, get_or, refl, sym, ◌∙◌, ap, arith}
-use Rattle.std.specs.Prelude.{bytes_eq, position, find, Option, Some, None, Result, Ok, Err}
+use Rattle.std.proofs.Common.{◌≡◌, ℕ, ◌<◌, ◌+◌, Bool, true, false, not, cond, List, [], ◌∷◌, map, refl, sym, ◌∙◌, ap}
+use Rattle.std.specs.Prelude.{bytes_eq, position, find, Option, Some, None, Ok}
 use Rattle.std.specs.List.{position_or_len}
 use Rattle.std.specs.Option.{option_map}
 use Rattle.std.proofs.lemmas.List.{length-map}
@@ -10,7 +10,7 @@ use Rattle.desc_table.specs.declared.fault.FormatFault.{FormatFault}
 use Rattle.desc_table.specs.declared.refused.Refused.{Refused}
 use Rattle.desc_table.specs.declared.table.Row.{Row}
 use Rattle.desc_table.specs.Format.{Format, formats, format_count, format_at, no_format}
-use Rattle.desc_table.specs.Refused.{Refusal, refused, fault_or_unknown, fault_named, row_named, row_or_fault, lookup}
+use Rattle.desc_table.specs.Refused.{refused, fault_or_unknown, fault_named, row_named, row_or_fault, lookup}
 use Rattle.desc_table.specs.Row.{format_of, refusal_of}
 
 row_or_fault-Ok : (found : Option ℕ) (fault : FormatFault) (row : ℕ) → row_or_fault found fault ≡ Ok row → found ≡ Some row

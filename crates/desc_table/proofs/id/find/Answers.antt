@@ -1,5 +1,5 @@
 use Rattle.std.proofs.Common.{sym, ap, ◌∙◌}
-use Rattle.std.specs.Prelude.{Ok, Err}
+use Rattle.std.specs.Prelude.{Err}
 use Rattle.desc_table.specs.Refused.{fault_named, row_or_fault, lookup}
 use Rattle.desc_table.proofs.Lookup.{row_named-Some}
 use Rattle.desc_table.proofs.id.find.Goals as goal

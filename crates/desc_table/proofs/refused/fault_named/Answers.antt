@@ -1,6 +1,5 @@
 use Rattle.std.proofs.Common.{Some, None, sym, ap, ◌∙◌}
 use Rattle.std.specs.Option.{option_map}
-use Rattle.desc_table.specs.declared.refused.Refused.{Refused}
 use Rattle.desc_table.proofs.Lookup.{fault_named-refused}
 use Rattle.desc_table.proofs.refused.fault_named.Goals as goal
 
