@@ -1,0 +1,2 @@
+pub mod LineExits
+pub mod LineFronts
