@@ -1,2 +1,3 @@
 pub mod LineExits
 pub mod LineFronts
+pub mod TagChains

@@ -70,5 +70,5 @@ whole-answer kind (Some x) None xs size taken closed is short same = absurd take
 whole-answer kind (Some x) (Some y) xs size taken closed is short same =
     let all : x ≡ xs ++ 10 ∷ y = taken ∙ append_assoc xs (10 ∷ []) y in
     let front : take (size + 1) x ≡ xs ++ 10 ∷ [] =
-        ap (take (size + 1)) all ∙ ap (λ n. take (n + 1) (xs ++ 10 ∷ y)) (sym is) ∙ take-append-add xs (10 ∷ y) 1 in
+    ap (take (size + 1)) all ∙ ap (λ n. take (n + 1) (xs ++ 10 ∷ y)) (sym is) ∙ take-append-add xs (10 ∷ y) 1 in
     (ap (line_in kind) all ∙ line_in-whole kind xs y closed (omega arith) same, taken ∙ ap (λ l. l ++ y) (sym front))

@@ -100,8 +100,8 @@ follows_word-append xs ys long =
 follows_word-front : (xs ys : List ℕ) → follows_word (xs ++ ys) ≡ true → follows_word xs ≡ true
 follows_word-front xs ys follows =
     elim (cases_lt 9 (length xs)) [
-      inl long ↦ sym (follows_word-append xs ys (omega (arith, long))) ∙ follows
-    | inr short ↦ rw (le-leb (length xs) 9 short) refl
+      | inl long ↦ sym (follows_word-append xs ys (omega (arith, long))) ∙ follows
+      | inr short ↦ rw (le-leb (length xs) 9 short) refl
     ]
 
 -- what holds of more bytes holds of fewer
@@ -156,7 +156,7 @@ pub line_in-short : (kind : LineKind) (xs : List ℕ) → list_any is_newline xs
     → line_in kind xs ≡ Err (cut_off kind (length xs))
 line_in-short Header xs closed short same =
     elim (cases_lt (length xs) 9) [
-      inl few ↦ rw (lt-leb 9 (length xs) few, lt-ltb (length xs) 9 few) refl
-    | inr long ↦ rw (le-leb 9 (length xs) long, same, le-ltb (length xs) 9 long) (line_cut-short xs closed short)
+      | inl few ↦ rw (lt-leb 9 (length xs) few, lt-ltb (length xs) 9 few) refl
+      | inr long ↦ rw (le-leb 9 (length xs) long, same, le-ltb (length xs) 9 long) (line_cut-short xs closed short)
     ]
 line_in-short Frame xs closed short same = rw same (line_cut-short xs closed short)

@@ -7,6 +7,7 @@
 mod fault;
 mod header;
 mod line;
+mod tags;
 
 pub use fault::{FrameLine, HeaderEnd, LineEnd, StreamFault};
 pub use header::{Header, TagText};

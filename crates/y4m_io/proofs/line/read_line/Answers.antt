@@ -36,7 +36,7 @@ returns-then-line-size-eq10-clause-line g c =
     let long : length old ≡ c.loop-size.size = length-take-le c.loop-size.size c.loop-size.line c.loop-size.invariant.within in
     let kept = front-kept c.loop-size.line c.read.new.buf c.loop-size.size c.loop-size.invariant.within in
     let front : take (c.loop-size.size + 1) new ≡ old ++ 10 ∷ [] =
-        front-next c.loop-size.line c.read.new.buf c.loop-size.size c.loop-size.invariant.within (omega (arith, within)) ∙ ap (λ (byte : ℕ). old ++ byte ∷ []) c.if-line-size-eq10.true in
+    front-next c.loop-size.line c.read.new.buf c.loop-size.size c.loop-size.invariant.within (omega (arith, within)) ∙ ap (λ (byte : ℕ). old ++ byte ∷ []) c.if-line-size-eq10.true in
     let taken = taken-next (g.In.Source.shown c.args.input.now).bytes (g.In.Source.shown c.loop-size.input).bytes (g.In.Source.shown c.read.new.self).bytes c.loop-size.line c.read.new.buf c.loop-size.size c.in-Ok.count c.loop-size.invariant.within (search rules) c.in-Ok.ensures.bound.0 c.if-count-eq0.false c.loop-size.invariant.taken c.in-Ok.ensures.bytes.0 in
     let same : is_front c.args.kind (old ++ 10 ∷ []) ≡ true = ap (is_front c.args.kind) (sym front) ∙ sym c.is_front.ensures ∙ c.if-not-is_front.false in
     let size : c.loop-size.size ≤ 1024 = omega arith in
