@@ -1,3 +1,5 @@
 pub mod LineExits
 pub mod LineFronts
 pub mod TagChains
+pub mod SpaceRows
+pub mod Extents
