@@ -6,6 +6,7 @@
 
 mod fault;
 mod header;
+mod header_line;
 mod line;
 mod size;
 mod stream_format;
