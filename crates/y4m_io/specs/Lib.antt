@@ -7,3 +7,5 @@ pub mod DefaultRange
 pub mod HeaderText
 pub mod Reading
 pub mod LineKinds
+pub mod Spaces
+pub mod Examples

@@ -1,0 +1,10 @@
+pub mod LineExits
+pub mod LineFronts
+pub mod TagChains
+pub mod Examples
+pub mod LineShapes
+pub mod HeaderFacts
+pub mod LineCuts
+pub mod HeaderParts
+pub mod SpaceRows
+pub mod Extents
