@@ -5,5 +5,4 @@ ghost use Rattle.sws_words.specs.Lines.{RefusesEach, AcceptsEach};
 pub fn lines()
     ensures refused { RefusesEach }
     ensures accepted { AcceptsEach }
-{
-}
+{}
