@@ -1,4 +1,4 @@
-use Rattle.std.proofs.Common.{◌≡◌, ◌∙◌, ◌<◌, ◌≤◌, sym, length, arith}
+use Rattle.std.proofs.Common.{◌∙◌, sym, arith}
 use Rattle.sws_words.specs.Given.{given_in}
 use Rattle.sws_words.specs.Rules.{is_missing, lacks}
 use Rattle.sws_words.proofs.OptionRows.{any_behind, any_ended, any_here}

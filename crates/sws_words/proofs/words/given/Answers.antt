@@ -1,8 +1,8 @@
 -- The command that is built is the one of the definitions, and clap's clauses say of it what they say.
 use Rattle.std.proofs.Common.{◌≡◌, ◌∙◌, ◌⊎◌, inl, inr, rules, refl, ap, ap₂, sym, subst, true, false, Bool, List, [], ◌∷◌, ◌==◌, map, arith, length, ℕ, ◌<◌, ◌+◌, slice_index_or}
 use Rattle.std.specs.Prelude.{Result, Ok, Err, IfOk, IfErr, fold, string_bytes}
-use Rattle.std.proofs.lemmas.Result.{IfOk-weaker, IfErr-weaker}
-use Rattle.clap.specs.Kinds.{FailsBy, HasKind, IsAmong, Kinds}
+use Rattle.std.proofs.lemmas.Result.{IfOk-weaker}
+use Rattle.clap.specs.Kinds.{FailsBy, IsAmong, Kinds}
 use Rattle.clap.specs.Faults.{fault_of, is_simple_and_free}
 use Rattle.clap.specs.Simple.{App, app_of, is_simple, matches_of}
 use Rattle.clap.specs.Values.{kind_of}
