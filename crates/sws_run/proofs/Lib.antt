@@ -1,4 +1,0 @@
-pub mod Taken
-pub mod Stream
-pub mod Refused
-pub mod TaskPairs

@@ -1,5 +1,8 @@
+pub mod Cut
 pub mod Ending
-pub mod Sides
-pub mod Line
-pub mod Stream
+pub mod FormatList
+pub mod NotesLine
+pub mod Output
+pub mod Request
 pub mod Run
+pub mod Sides

@@ -2,13 +2,6 @@
 #![tactic(auto)]
 
 mod ended;
-mod run;
-mod sides;
-mod top;
-mod words;
+mod request;
 
-pub use ended::{Ended, SideName, StreamFault, UsageFault};
-pub use top::{Gate, OpenGate, run_sws};
-
-#[cfg(test)]
-mod tests;
+pub use ended::{Ended, SideName};
