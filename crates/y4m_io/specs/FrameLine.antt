@@ -1,9 +1,8 @@
 -- The line in front of a frame (yuv4mpeg(5), "FRAME HEADER").
-use Rattle.std.specs.Prelude.{ℕ, ◌+◌, Bool, List, [], ◌∷◌, length, take, Option, None, Some, Result, Ok, Err, codes, if◌then◌else◌}
-use Rattle.std.specs.Str.{bytes_eq}
+use Rattle.std.specs.Prelude.{ℕ, ◌+◌, Bool, List, [], ◌∷◌, length, Option, None, Some, Result, Ok, Err, codes, if◌then◌else◌}
 use Rattle.y4m_io.specs.declared.fault.StreamFault.{StreamFault}
 use Rattle.y4m_io.specs.declared.fault.StreamFault.TheVariants.{NoMagic, LineTooLong, BadTag, NoSize, BadSize, BadColour, NoFrameLine, Truncated}
-use Rattle.y4m_io.specs.Lines.{line_cut}
+use Rattle.y4m_io.specs.Lines.{line_cut, agrees}
 
 -- what a frame line begins with
 abbrev pub frame_word : List ℕ
@@ -11,7 +10,7 @@ frame_word = codes "FRAME"
 
 -- the bytes begin with it, as far as they go
 abbrev pub has_frame_word : List ℕ → Bool
-has_frame_word bytes = bytes_eq (take 5 bytes) (take (length bytes) frame_word)
+has_frame_word bytes = agrees frame_word bytes
 
 abbrev pub frame_line_in : Result (List ℕ) StreamFault → Result (Option ℕ) StreamFault
 frame_line_in (Err fault) = Err fault

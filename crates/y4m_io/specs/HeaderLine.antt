@@ -1,13 +1,13 @@
 -- What a header line says (yuv4mpeg(5), "STREAM HEADER").
-use Rattle.std.specs.Prelude.{◌≡◌, ◌≤◌, true, ℕ, ◌+◌, ◌*◌, Bool, ◌&&◌, ◌||◌, List, [], ◌∷◌, length, drop, Option, None, Some, Result, Ok, Err, nat_lt, nat_le, nat_eq, if◌then◌else◌}
-use Rattle.std.specs.List.{list_all, starts_with}
+use Rattle.std.specs.Prelude.{◌≡◌, ◌≤◌, true, ℕ, ◌+◌, ◌*◌, Bool, ◌&&◌, ◌||◌, List, length, slice_index, Option, None, Some, Result, Ok, Err, nat_lt, nat_le, if◌then◌else◌}
+use Rattle.std.specs.List.{list_all}
 use Rattle.std.specs.Option.{option_and_then, ok_or}
 use Rattle.std.specs.Char.{is_ascii_digit}
 use Rattle.std.specs.Str.Parse.{digits_value}
 use Rattle.y4m_io.specs.declared.fault.StreamFault.{StreamFault}
 use Rattle.y4m_io.specs.declared.fault.StreamFault.TheVariants.{NoMagic, LineTooLong, BadTag, NoSize, BadSize, BadColour, NoFrameLine, Truncated}
 use Rattle.y4m_io.specs.declared.header.Header.{Header}
-use Rattle.y4m_io.specs.Lines.{is_newline, line_cut}
+use Rattle.y4m_io.specs.Lines.{is_newline, line_cut, agrees}
 use Rattle.y4m_io.specs.Tags.{magic, is_space, tags_of, letter, is_known_tag, text_of, range_of}
 use Rattle.y4m_io.specs.StreamFormats.{format_of_text, is_stream_format}
 
@@ -57,14 +57,17 @@ header_of tags =
     if list_all is_known_tag tags then header_with (size_of (text_of (letter "W") tags) (text_of (letter "H") tags)) (colour_of (text_of (letter "C") tags)) tags
     else Err BadTag
 
--- the first word of a line ends at a space, at the newline or at the end of the input
-abbrev pub ends_word : List ℕ → Bool
-ends_word [] = true
-ends_word (byte ∷ rest) = is_space byte || is_newline byte
+-- the byte behind the first word of a line
+abbrev pub ends_word : ℕ → Bool
+ends_word byte = is_space byte || is_newline byte
 
--- the bytes begin as a header line does
+-- the bytes begin as a header line does, as far as they go
+abbrev pub is_header_front : List ℕ → Bool
+is_header_front bytes = agrees magic bytes && (nat_le (length bytes) 9 || ends_word (slice_index bytes 9))
+
+-- the bytes begin with the first word of a header line
 abbrev pub has_magic : List ℕ → Bool
-has_magic bytes = starts_with nat_eq bytes magic && ends_word (drop (length magic) bytes)
+has_magic bytes = nat_le 9 (length bytes) && is_header_front bytes
 
 -- a header line: what it says, and how many bytes it has, its newline among them
 pub record HeaderLine : Type 0 where
@@ -95,7 +98,7 @@ IsHeaderFault NoFrameLine = ⊥
 IsHeaderFault Truncated = Unit {0}
 
 -- what every header has: a size within the limits, and a format of a stream
-pub record IsSound (header : Header) : Type 0 where
+pub record IsSoundHeader (header : Header) : Type 0 where
   pub width_least : 1 ≤ header.width
   pub width_most : header.width ≤ 16384
   pub height_least : 1 ≤ header.height

@@ -5,3 +5,5 @@ pub mod HeaderLine
 pub mod FrameLine
 pub mod DefaultRange
 pub mod HeaderText
+pub mod Reading
+pub mod LineKinds

@@ -1,8 +1,8 @@
 -- The tags of a header line (yuv4mpeg(5), "STREAM HEADER").
 use Prim.Native.String.{String}
-use Rattle.std.specs.Prelude.{ℕ, Bool, false, List, [], ◌∷◌, length, drop, filter, Option, None, Some, codes, slice_index, nat_lt, ◌==◌, if◌then◌else◌}
+use Rattle.std.specs.Prelude.{ℕ, Bool, false, List, [], ◌∷◌, length, drop, filter, filter_map, Option, None, Some, codes, slice_index, nat_lt, ◌==◌, if◌then◌else◌}
 use Rattle.std.specs.List.{slice_split, list_any, last_or}
-use Rattle.std.specs.Option.{option_map, option_and_then, is_some}
+use Rattle.std.specs.Option.{option_map}
 use Rattle.std.specs.Str.{bytes_eq}
 use Rattle.colour_matrix.specs.declared.class.Range.{Range}
 use Rattle.colour_matrix.specs.declared.class.Range.TheVariants.{Full, Limited}
@@ -44,6 +44,6 @@ text_of code tags = option_map (drop 1) (last_or None (filter (has_letter code) 
 abbrev pub range_named : List ℕ → Option Range
 range_named tag = if bytes_eq tag (codes "XCOLORRANGE=FULL") then Some Full else (if bytes_eq tag (codes "XCOLORRANGE=LIMITED") then Some Limited else None)
 
--- the range of the last tag that names one
+-- the last of the ranges that the tags name
 abbrev pub range_of : List (List ℕ) → Option Range
-range_of tags = option_and_then range_named (last_or None (filter (λ tag. is_some (range_named tag)) tags))
+range_of tags = last_or None (filter_map range_named tags)

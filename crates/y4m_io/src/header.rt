@@ -1,5 +1,5 @@
 // What a header line says.
-ghost use Rattle.std.specs.Prelude.{◌≡◌, ◌≤◌, List, ℕ, length};
+ghost use Rattle.std.specs.Prelude.{◌≡◌, List, ℕ};
 
 use colour_matrix::Range;
 use desc_table::FormatId;
@@ -15,15 +15,12 @@ impl Model for TagText {
     ghost Value = { List ℕ };
 
     ghost view = { λ text. text.bytes.items };
-
-    ghost invariant = { λ text. length text.bytes.items ≤ 1024 };
 }
 
 impl TagText {
-    /// The bytes of the text, at most 1,024.
+    /// The bytes of the text.
     pub fn bytes(&self) -> &[u8]
-        ensures value { result.now ≡ self.now }
-        ensures size { length result.now ≤ 1024 }
+        ensures { result.now ≡ self.now }
     {
         self.bytes.as_slice()
     }

@@ -6,7 +6,7 @@
 
 mod fault;
 mod header;
-mod tags;
+mod line;
 
 pub use fault::{FrameLine, HeaderEnd, LineEnd, StreamFault};
 pub use header::{Header, TagText};
