@@ -1,5 +1,5 @@
 -- The command that is built is the one of the definitions, and clap's clauses say of it what they say.
-use Rattle.std.proofs.Common.{◌≡◌, ◌∙◌, ◌⊎◌, inl, inr, rules, refl, ap, ap₂, sym, subst, true, false, Bool, List, [], ◌∷◌, ◌==◌, map, arith, length, add-one}
+use Rattle.std.proofs.Common.{◌≡◌, ◌∙◌, ◌⊎◌, inl, inr, rules, refl, ap, ap₂, sym, subst, true, false, Bool, List, [], ◌∷◌, ◌==◌, map, arith, length, ℕ, ◌<◌, ◌+◌, slice_index_or}
 use Rattle.std.specs.Prelude.{Result, Ok, Err, IfOk, IfErr, fold, string_bytes}
 use Rattle.std.proofs.lemmas.Result.{IfOk-weaker, IfErr-weaker}
 use Rattle.clap.specs.Kinds.{FailsBy, HasKind, IsAmong, Kinds}
@@ -10,9 +10,13 @@ use Rattle.clap.specs.Walk.{Text, is_empty}
 use Rattle.clap.specs.declared.error.Error.{Error}
 use Rattle.clap.specs.declared.error.kind.ErrorKind.{ErrorKind}
 use Rattle.clap.specs.declared.error.kind.ErrorKind.TheVariants.{OutOfMemory}
-use Rattle.sws_words.specs.Command.{command, command_with, given_by, takes_words, with_option}
-use Rattle.sws_words.specs.Options.{options}
-use Rattle.sws_words.proofs.OptionRows.{no_option}
+use Rattle.std.specs.Borrow.{Bor}
+use Rattle.clap.specs.Simple.{with_rule}
+use Rattle.clap.specs.Walk.{Rule, rule_of}
+use Rattle.sws_words.specs.declared.options.OptionRow.{OptionRow}
+use Rattle.sws_words.specs.Command.{command, long_option, command_with, given_by, takes_words, with_option}
+use Rattle.sws_words.specs.Options.{option_of, options}
+use Rattle.sws_words.proofs.OptionRows.{left_from, next_option, no_option}
 use Rattle.sws_words.proofs.words.given.Goals as goal
 
 simple : is_simple command ≡ true
@@ -60,3 +64,20 @@ returns-clause-refused c =
     refused_by (fault_of command (map string_bytes c.args.words.now)) c.try_get_matches_from.result
     (subst (λ app. FailsBy (fault_of app (map string_bytes c.args.words.now)) c.try_get_matches_from.result) made
     (c.try_get_matches_from.ensures.kinds (ap is_simple_and_free made ∙ free)))
+
+-- one option more is told, and one less is left
+added : (rows : List OptionRow) (i : ℕ) (d : OptionRow) (old new : App) (rule : Rule) (name : Text) → i < length rows
+    → new ≡ with_rule old rule → rule ≡ long_option name → name ≡ (slice_index_or rows i d).name.now
+    → fold with_option old (left_from rows i) ≡ fold with_option new (left_from rows (i + 1))
+unfolding option_of
+added rows i d old new rule name below is told named =
+    ap (fold with_option old) (next_option rows i d below)
+    ∙ ap (λ app. fold with_option app (left_from rows (i + 1))) (ap (λ n. with_rule old (long_option n)) (sym named) ∙ sym (is ∙ ap (with_rule old) told))
+
+pub loop-option-preserved : goal.loop-option-preserved
+loop-option-preserved c =
+    let arg = c.new-in-loop-option.result in
+    let told : rule_of c.long.result ≡ long_option arg.id.now = search rules in
+    let more = added c.options-option-items.result.now c.loop-option.option-index _ (app_of c.loop-option.command) (app_of c.in_ok-command.command) (rule_of c.long.result) arg.id.now
+    (omega arith) (c.in_ok-command.ensures.shape (search rules)) told (ap (λ (text : Bor Text). text.now) c.new-in-loop-option.ensures.id) in
+    sym more ∙ c.loop-option.invariant
