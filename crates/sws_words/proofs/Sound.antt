@@ -9,7 +9,7 @@ use Rattle.colour_matrix.specs.declared.matrix.Matrix.{Matrix}
 use Rattle.colour_matrix.specs.Matrix.{bt601, matrix_named}
 use Rattle.desc_table.specs.declared.fault.FormatFault.{FormatFault}
 use Rattle.desc_table.specs.Format.{format_count}
-use Rattle.desc_table.specs.Refused.{found}
+use Rattle.desc_table.specs.Refused.{lookup}
 use Rattle.desc_table.proofs.Found.{found-Ok}
 use Rattle.sws_words.specs.Given.{form_given, matrix_given, number_given, side_given, size_given, source_given, target_given, value_of}
 use Rattle.sws_words.specs.Options.{CommandOption, is_barred, is_needed, options}
@@ -84,10 +84,10 @@ matrix_has_name (Some name) = go (matrix_named name) refl
     go (Some m) is = (name, is)
 
 -- a format that is found is of the table
-found_below : (name : Text) → IfOk (found name) (λ id. id < format_count)
-found_below name = go (found name) refl
+found_below : (name : Text) → IfOk (lookup name) (λ id. id < format_count)
+found_below name = go (lookup name) refl
   where
-    go : (format : Result ℕ FormatFault) → found name ≡ format → IfOk format (λ id. id < format_count)
+    go : (format : Result ℕ FormatFault) → lookup name ≡ format → IfOk format (λ id. id < format_count)
     go (Ok id) is = (found-Ok name id is).0
     go (Err fault) is = tt
 
