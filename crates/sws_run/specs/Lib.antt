@@ -1,6 +1,7 @@
 pub mod Cut
 pub mod Ending
 pub mod FormatList
+pub mod Frames
 pub mod NotesLine
 pub mod Output
 pub mod Request

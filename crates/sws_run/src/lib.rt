@@ -2,6 +2,8 @@
 #![tactic(auto)]
 
 mod ended;
+mod frame;
 mod request;
+mod run;
 
 pub use ended::{Ended, SideName};
