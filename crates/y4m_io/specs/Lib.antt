@@ -7,3 +7,4 @@ pub mod DefaultRange
 pub mod HeaderText
 pub mod Reading
 pub mod LineKinds
+pub mod Spaces

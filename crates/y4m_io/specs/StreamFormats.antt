@@ -12,37 +12,39 @@ pub record ColourSpace : Type 0 where
   pub text : List ℕ
   pub name : List ℕ
 
-abbrev pub space_of : String → String → ColourSpace
-space_of text name = record { text = codes text; name = codes name }
+abbrev pub space : String → String → ColourSpace
+space text name = record { text = codes text; name = codes name }
 
 -- the colour spaces of a stream
-abbrev pub colour_spaces : List ColourSpace
+unfoldable pub colour_spaces : List ColourSpace
 colour_spaces =
-    space_of "444" "yuv444p"
-    ∷ space_of "444p9" "yuv444p9le"
-    ∷ space_of "444p10" "yuv444p10le"
-    ∷ space_of "444p12" "yuv444p12le"
-    ∷ space_of "444p14" "yuv444p14le"
-    ∷ space_of "444p16" "yuv444p16le"
-    ∷ space_of "mono" "gray"
-    ∷ space_of "mono10" "gray10le"
-    ∷ space_of "mono12" "gray12le"
-    ∷ space_of "mono16" "gray16le"
+    space "444" "yuv444p"
+    ∷ space "444p9" "yuv444p9le"
+    ∷ space "444p10" "yuv444p10le"
+    ∷ space "444p12" "yuv444p12le"
+    ∷ space "444p14" "yuv444p14le"
+    ∷ space "444p16" "yuv444p16le"
+    ∷ space "mono" "gray"
+    ∷ space "mono10" "gray10le"
+    ∷ space "mono12" "gray12le"
+    ∷ space "mono16" "gray16le"
     ∷ []
 
--- the name of the format with this C tag
-abbrev pub name_of_text : List ℕ → Option (List ℕ)
-name_of_text text = option_map (λ space. space.name) (find (λ space. bytes_eq space.text text) colour_spaces)
+-- the colour space with this C tag
+abbrev pub space_with_text : List ℕ → Option ColourSpace
+space_with_text text = find (λ space. bytes_eq space.text text) colour_spaces
+
+-- the colour space of the format with this name
+abbrev pub space_with_name : List ℕ → Option ColourSpace
+space_with_name name = find (λ space. bytes_eq space.name name) colour_spaces
 
 -- the format with this C tag
-abbrev pub format_of_text : List ℕ → Option ℕ
-format_of_text text = option_and_then (λ name. result_ok (lookup name)) (name_of_text text)
+unfoldable pub format_of_text : List ℕ → Option ℕ
+format_of_text text = option_and_then (λ space. result_ok (lookup space.name)) (space_with_text text)
 
 -- the C tag of the format with this name; yuvj444p has that of yuv444p
-abbrev pub text_of_name : List ℕ → Option (List ℕ)
-text_of_name name =
-    if bytes_eq name (codes "yuvj444p") then Some (codes "444")
-    else option_map (λ space. space.text) (find (λ space. bytes_eq space.name name) colour_spaces)
+unfoldable pub text_of_name : List ℕ → Option (List ℕ)
+text_of_name name = if bytes_eq name (codes "yuvj444p") then Some (codes "444") else option_map (λ space. space.text) (space_with_name name)
 
 -- the C tag of a format
 abbrev pub text_of_format : ℕ → Option (List ℕ)

@@ -1,4 +1,8 @@
 // How a read of a header line or of a frame line ends.
+ghost use Rattle.std.specs.Prelude.{◌≡◌};
+ghost use Rattle.y4m_io.specs.declared.fault.HeaderEnd.TheVariants as end_of_header;
+
+use frac_math::OutOfMemory;
 
 /// What is wrong with the bytes of a stream.
 #[derive(Clone, Copy, Debug, PartialEq, Eq)]
@@ -30,6 +34,22 @@ pub enum HeaderEnd {
     ReadFault,
     /// No memory was to be had.
     OutOfMemory,
+}
+
+impl From<StreamFault> for HeaderEnd {
+    ghost from_gives = { λ fault end. end ≡ end_of_header.Stream fault };
+
+    fn from(fault: StreamFault) -> Self {
+        HeaderEnd::Stream(fault)
+    }
+}
+
+impl From<OutOfMemory> for HeaderEnd {
+    ghost from_gives = { λ _ end. end ≡ end_of_header.OutOfMemory };
+
+    fn from(_: OutOfMemory) -> Self {
+        HeaderEnd::OutOfMemory
+    }
 }
 
 /// What stands where a frame may begin.

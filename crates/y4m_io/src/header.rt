@@ -3,6 +3,8 @@ ghost use Rattle.std.specs.Prelude.{◌≡◌, List, ℕ};
 
 use colour_matrix::Range;
 use desc_table::FormatId;
+use frac_math::OutOfMemory;
+use std::alloc::Global;
 use std::marker::Model;
 
 /// The text of a tag behind its letter, copied from a header. In a clause it is its bytes.
@@ -18,6 +20,17 @@ impl Model for TagText {
 }
 
 impl TagText {
+    ghost use Rattle.std.specs.Prelude.{IfOk};
+
+    /// A copy of these bytes.
+    pub(crate) fn new(alloc: Global, text: &[u8]) -> Result<Self, OutOfMemory>
+        ensures { IfOk result (λ copy. copy ≡ text.now) }
+    {
+        let mut bytes = Vec::with_capacity(alloc, text.len())?;
+        bytes.extend_from_slice(text)?;
+        Ok(TagText { bytes })
+    }
+
     /// The bytes of the text.
     pub fn bytes(&self) -> &[u8]
         ensures { result.now ≡ self.now }

@@ -6,7 +6,12 @@
 
 mod fault;
 mod header;
+mod header_line;
 mod line;
+mod size;
+mod stream_format;
+mod tags;
 
 pub use fault::{FrameLine, HeaderEnd, LineEnd, StreamFault};
 pub use header::{Header, TagText};
+pub use stream_format::is_stream_format;

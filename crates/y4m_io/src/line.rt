@@ -26,7 +26,9 @@ pub(crate) enum LineKind {
 fn agrees(word: &[u8], bytes: &[u8]) -> bool
     ensures { result ≡ agrees word.now bytes.now }
 {
-    word.iter().zip(bytes).all(|(letter, byte)| *byte == *letter)
+    word.iter()
+        .zip(bytes)
+        .all(|(letter, byte)| *byte == *letter)
 }
 
 fn is_header_front(bytes: &[u8]) -> bool
