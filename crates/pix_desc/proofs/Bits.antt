@@ -31,8 +31,8 @@ bit_at_div_byte n b = ap (λ k. k % 2) (shr-shr n 8 b)
 pub bit_at_shifted : (v shift i : ℕ) → bit_at (v * 2 ^ shift) (shift + i) ≡ bit_at v i
 bit_at_shifted v shift i =
     let whole : v * 2 ^ shift ≡ v * 2 ^ shift + 0 = omega arith in
-    let place : shift + i - shift ≡ i = omega arith in
-    ap (λ n. bit_at n (shift + i)) whole ∙ bit_at_cat_high v shift 0 (shift + i) (pow_pos shift) (omega arith) ∙ ap (bit_at v) place
+    let position : shift + i - shift ≡ i = omega arith in
+    ap (λ n. bit_at n (shift + i)) whole ∙ bit_at_cat_high v shift 0 (shift + i) (pow_pos shift) (omega arith) ∙ ap (bit_at v) position
 
 pub bit_at_shifted_below : (v shift m : ℕ) → m < shift → bit_at (v * 2 ^ shift) m ≡ 0
 bit_at_shifted_below v shift m low =

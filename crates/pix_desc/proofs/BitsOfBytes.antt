@@ -107,8 +107,8 @@ pub bit_at_part : (narrow be : Bool) (first number m k b : ℕ) → IsBitAt narr
 bit_at_part true be first number m k b at =
     let inside : m < 8 = at.inside in
     let same : b ≡ m = omega (arith, at.bit) in
-    let place : k ≡ first = elim be as (λ v. k ≡ first + byte_of true v m → k ≡ first) [ true ↦ λ e. omega arith | false ↦ λ e. omega arith ] at.byte in
-    ap (λ n. bit_at n b) (part_first true be first number k place) ∙ ap (bit_at number) same
+    let index : k ≡ first = elim be as (λ v. k ≡ first + byte_of true v m → k ≡ first) [ true ↦ λ e. omega arith | false ↦ λ e. omega arith ] at.byte in
+    ap (λ n. bit_at n b) (part_first true be first number k index) ∙ ap (bit_at number) same
 bit_at_part false true first number m k b at =
     let byte : k ≡ first + (1 - m / 8) = at.byte in
     ⊎_elim

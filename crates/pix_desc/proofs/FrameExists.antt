@@ -7,7 +7,7 @@ use Rattle.pix_desc.specs.declared.desc.Desc.{Desc}
 use Rattle.pix_desc.specs.Component.{component_of, bit_of}
 use Rattle.pix_desc.specs.Frame.{plane_step, plane_start, row_start, frame_length, frame_component, frame_of, pixel_byte, reads_pixel_bit, IsFrameOf, FitDepths}
 use Rattle.pix_desc.specs.Layouts.{IsLaidOut}
-use Rattle.pix_desc.proofs.FramePlaces.{place_of, bit_place_is, bit_of_is, frame_component_below}
+use Rattle.pix_desc.proofs.BitPositions.{position_of, bit_position_is, bit_of_is, frame_component_below}
 use Rattle.pix_desc.proofs.FrameReads.{IsReadBy, read_inside, frame_bit_by, plane_below}
 use Rattle.pix_desc.proofs.FramePixel.{pixel_byte_below, pixel_bit_at, spare_bit_at}
 use Rattle.pix_desc.proofs.FramePlanes.{IsByteOf, find_byte, byte_of_planes, length-planes_of}
@@ -39,7 +39,7 @@ module _ (desc : Desc) (width height : ℕ) (value : ℕ → ℕ → ℕ → ℕ
       let split : k ≡ 8 * (k / 8) + k % 8 = omega arith in
       let byte : k / 8 < plane_step desc p = omega arith in
       let is : IsByteOf desc width height (start + k / 8) p x y (k / 8) =
-      record { plane = plane_below desc p laid (omega arith); column = column; row = row; byte = byte; place = refl } in
+      record { plane = plane_below desc p laid (omega arith); column = column; row = row; byte = byte; index = refl } in
       ap (λ t. bit_of frame (8 * start + t)) split
       ∙ bit_of_byte frame start (k / 8) (k % 8) (omega arith)
       ∙ ap (λ n. bit_at n (k % 8)) (byte_of_frame desc width height value (start + k / 8) p x y (k / 8) is)
@@ -61,8 +61,8 @@ module _ (desc : Desc) (width height : ℕ) (value : ℕ → ℕ → ℕ → ℕ
       same_from_bits_below c.depth (frame_component desc width height frame j x y) (value j x y)
       (frame_component_below desc width height frame j x y) (fit j x y listed column row)
       (λ i inside.
-      let k = place_of desc c (c.shift + i) in
-      let by : IsReadBy desc c.plane k j i = record { listed = listed; there = refl; inside = inside; at = bit_place_is desc c i (laid.first j listed) } in
+      let k = position_of desc c (c.shift + i) in
+      let by : IsReadBy desc c.plane k j i = record { listed = listed; there = refl; inside = inside; at = bit_position_is desc c i (laid.first j listed) } in
       frame_bit_by desc width height frame c.plane x y k j i laid frame_bytes by
       ∙ pixel_at c.plane x y k column row (read_inside desc c.plane k j i laid by)
       ∙ pixel_bit_at desc laid c.plane (λ t. value t x y) (λ t there. fit t x y there column row) k j i by)

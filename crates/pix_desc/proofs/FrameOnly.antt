@@ -8,7 +8,7 @@ use Rattle.pix_desc.specs.Component.{component_of, bit_of}
 use Rattle.pix_desc.specs.Frame.{plane_step, row_start, frame_of, reads_pixel_bit, part, pixel_byte, IsFrameOf, FitDepths, AgreeWithin}
 use Rattle.pix_desc.specs.Layouts.{IsLaidOut}
 use Rattle.pix_desc.proofs.Bits.{sum_from_same}
-use Rattle.pix_desc.proofs.FramePlaces.{byte_below, frame_component_below}
+use Rattle.pix_desc.proofs.BitPositions.{byte_below, frame_component_below}
 use Rattle.pix_desc.proofs.FrameReads.{IsReadBy, read_by, frame_bit_by}
 use Rattle.pix_desc.proofs.FramePixel.{part_in}
 use Rattle.pix_desc.proofs.FramePlanes.{IsByteOf, find_byte}
@@ -41,7 +41,7 @@ module _ (desc : Desc) (width height : ℕ) (value : ℕ → ℕ → ℕ → ℕ
   same_byte : (a b : List ℕ) → IsFrameOf desc width height value a → IsFrameOf desc width height value b → (at p x y o : ℕ) → IsByteOf desc width height at p x y o → get_or a at 0 ≡ get_or b at 0
   same_byte a b first second at p x y o is =
       same_from_bits_below 8 (get_or a at 0) (get_or b at 0) (byte_below a at first.bytes) (byte_below b at second.bytes) (λ t bit.
-      ap (λ k. bit_at (get_or a k 0) t) is.place ∙ same_bit_of_byte a b first second p x y o t is.column is.row is.byte bit ∙ ap (λ k. bit_at (get_or b k 0) t) (sym is.place))
+      ap (λ k. bit_at (get_or a k 0) t) is.index ∙ same_bit_of_byte a b first second p x y o t is.column is.row is.byte bit ∙ ap (λ k. bit_at (get_or b k 0) t) (sym is.index))
 
   -- two raw frames of the same values are one
   pub same_frames : (a b : List ℕ) → desc.palette ≡ false → IsFrameOf desc width height value a → IsFrameOf desc width height value b → a ≡ b

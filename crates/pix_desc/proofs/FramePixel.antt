@@ -10,7 +10,7 @@ use Rattle.pix_desc.specs.Frame.{part, pixel_byte, reads_pixel_bit}
 use Rattle.pix_desc.specs.Layouts.{IsLaidOut}
 use Rattle.pix_desc.proofs.Bits.{SharesNoBit, bit_at_shifted, bit_at_shifted_cases, bit_at_sum_only, bit_at_sum_none, sum_from_below}
 use Rattle.pix_desc.proofs.BitsOfBytes.{bits_of, byte_of, IsBitAt, part_below, bit_at_part, bit_at_part_cases}
-use Rattle.pix_desc.proofs.FramePlaces.{place_of, bit_place_is, same_place, fits_bits}
+use Rattle.pix_desc.proofs.BitPositions.{position_of, bit_position_is, same_position, fits_bits}
 use Rattle.pix_desc.proofs.FrameReads.{IsReadBy, reads_from}
 
 -- what component j puts into byte k of a pixel in a plane
@@ -45,7 +45,7 @@ module _ (desc : Desc) (laid : IsLaidOut desc) (plane : ℕ) (values : ℕ → �
   bit_at_part_in : (k b j i : ℕ) → b < 8 → IsReadBy desc plane (8 * k + b) j i → bit_at (part_in desc plane values k j) b ≡ bit_at (values j) i
   bit_at_part_in k b j i below by =
       let c = component_of desc j in
-      let place : place_of desc c (c.shift + i) ≡ 8 * k + b = same_place desc c i (8 * k + b) (laid.first j by.listed) by.at in
+      let position : position_of desc c (c.shift + i) ≡ 8 * k + b = same_position desc c i (8 * k + b) (laid.first j by.listed) by.at in
       let fits = fits_bits (c.shift + c.depth) (laid.bits j by.listed) in
       let within : c.shift + i < bits_of (is_narrow c) = omega (arith, fits, by.inside) in
       let at : IsBitAt (is_narrow c) desc.be (count_of (first_byte desc c)) (c.shift + i) k b = record { inside = within; byte = omega arith; bit = omega arith } in
@@ -61,8 +61,8 @@ module _ (desc : Desc) (laid : IsLaidOut desc) (plane : ℕ) (values : ℕ → �
         | inl none ↦ inl none
         | inr bit ↦
             let byte : k ≡ first + byte_of (is_narrow c) desc.be (c.shift + bit.0) = at.byte ∙ ap (λ t. first + byte_of (is_narrow c) desc.be t) (sym bit.2) in
-            let place : place_of desc c (c.shift + bit.0) ≡ 8 * k + b = omega (arith, byte, at.bit, bit.2) in
-            inr (bit.0, record { listed = listed; there = here; inside = bit.1; at = bit_place_is desc c bit.0 (laid.first j listed) ∙ ap pos place })
+            let position : position_of desc c (c.shift + bit.0) ≡ 8 * k + b = omega (arith, byte, at.bit, bit.2) in
+            inr (bit.0, record { listed = listed; there = here; inside = bit.1; at = bit_position_is desc c bit.0 (laid.first j listed) ∙ ap pos position })
       ]
 
   -- a bit of a component's part is 0 where the component reads none

@@ -53,7 +53,7 @@ pub record IsByteOf (desc : Desc) (width height at p x y o : ℕ) : Type 0 where
   pub column : x < width
   pub row : y < height
   pub byte : o < plane_step desc p
-  pub place : at ≡ row_start desc width height p y + x * plane_step desc p + o
+  pub index : at ≡ row_start desc width height p y + x * plane_step desc p + o
 
 -- the plane that a byte lies in
 find_plane : (desc : Desc) (width height m at : ℕ) → at < plane_start desc width height m
@@ -65,11 +65,11 @@ find_plane desc width height (suc m) at below =
     (λ (last : plane_start desc width height m ≤ at). (m, at - plane_start desc width height m, omega arith, omega arith, omega arith))
     (cases_lt at (plane_start desc width height m))
 
--- row, column and byte of a place in a plane
-place_in_plane : (k height width step : ℕ) → k < height * (width * step)
+-- the row, the column and the byte of the pixel of byte k of a plane
+byte_in_plane : (k height width step : ℕ) → k < height * (width * step)
     → (k / (width * step) < height) × (k % (width * step) / step < width) × (k % (width * step) % step < step)
     × (k ≡ k / (width * step) * (width * step) + (k % (width * step) / step * step + k % (width * step) % step))
-place_in_plane k height width step below =
+byte_in_plane k height width step below =
     let row = width * step in
     let some : 0 < row = ⊎_elim (λ p. p) (λ none. let zero_row : row ≡ 0 = omega arith in absurd (omega (arith, ap (λ r. height * r) zero_row))) (cases_lt 0 row) in
     let some_step : 0 < step = ⊎_elim (λ p. p) (λ none. let zero_step : step ≡ 0 = omega arith in absurd (omega (arith, ap (λ s. width * s) zero_step))) (cases_lt 0 step) in
@@ -85,8 +85,8 @@ find_byte desc width height at below =
     let k = found.1 in
     let step = plane_step desc p in
     let row = width * step in
-    let parts = place_in_plane k height width step found.3 in
-    (p, k % row / step, k / row, k % row % step, record { plane = found.2; column = parts.1; row = parts.0; byte = parts.2; place = omega (arith, found.4, parts.3) })
+    let parts = byte_in_plane k height width step found.3 in
+    (p, k % row / step, k / row, k % row % step, record { plane = found.2; column = parts.1; row = parts.0; byte = parts.2; index = omega (arith, found.4, parts.3) })
 
 -- byte k of a plane, where it is byte o of the pixel at x and y
 plane_byte_is : (desc : Desc) (width : ℕ) (value : ℕ → ℕ → ℕ → ℕ) (p x y o : ℕ) → x < width → o < plane_step desc p
@@ -111,7 +111,7 @@ byte_of_planes desc width height value at p x y o is =
     let k = y * row + (x * step + o) in
     let rest : x * step + o < row = omega (arith, mul-add-lt x step o width is.column is.byte) in
     let within : k < plane_length desc width height p = omega (arith, mul-add-lt y row (x * step + o) height is.row rest) in
-    let place : at ≡ plane_start desc width height p + k = omega (arith, is.place) in
-    ap (λ t. get_or (planes_of desc width height value 4) t 0) place
+    let index : at ≡ plane_start desc width height p + k = omega (arith, is.index) in
+    ap (λ t. get_or (planes_of desc width height value 4) t 0) index
     ∙ plane_at desc width height value 4 p k is.plane within
     ∙ plane_byte_is desc width value p x y o is.column is.byte

@@ -21,7 +21,7 @@ ones_from s d fits =
     let less = less_one (2 ^ d) (2 ^ s) (pow_pos d) in
     ap (λ n. (n - 1) * 2 ^ s % 2 ^ 16) one ∙ whole ∙ (let e : (2 ^ d - 1) * 2 ^ s ≡ 2 ^ (s + d) - 2 ^ s = omega (arith, split, less) in e)
 
--- n with v in place of its d bits from s on
+-- n with v for its d bits from s on
 abbrev pub replaced : ℕ → ℕ → ℕ → ℕ → ℕ
 replaced n s d v = bit_or (bit_and n (2 ^ 16 - 1 - (2 ^ (s + d) - 2 ^ s))) (v * 2 ^ s)
 

@@ -10,7 +10,7 @@ use Rattle.pix_desc.specs.declared.desc.Desc.{Desc}
 use Rattle.pix_desc.specs.declared.desc.Layout.{Layout}
 use Rattle.pix_desc.specs.declared.desc.DescFault.{DescFault}
 use Rattle.pix_desc.specs.declared.desc.DescFault.TheVariants.{ComponentCount, DepthRange, Overlap, OutsideStep, MixedLayout, PlaneCount}
-use Rattle.pix_desc.specs.Component.{no_component, components, component_of, bytes_read, first_byte, bit_place, reads_bit, count_of, start_of}
+use Rattle.pix_desc.specs.Component.{no_component, components, component_of, bytes_read, first_byte, bit_position, reads_bit, count_of, start_of}
 use Rattle.pix_desc.specs.Frame.{plane_step}
 use Rattle.pix_desc.specs.Layouts.{IsValid, IsLaidOut, checked, is_count, some_component, some_pair, is_depth, overlap, is_inside, differ_in_step, is_elements, is_word, is_index, is_mixed, has_all_planes}
 use Rattle.pix_desc.proofs.ComponentLists.{list_any-below_false, list_all-below_true, list_all-map_true, length-components, get_or-components, some_component-false, some_component-at, some_pair-false, step_in-plane}
@@ -62,10 +62,10 @@ count_bounds false false true n h = grind (arith, nat_tests)
 depth_bounds : (c : Comp) → is_depth c ≡ true → (0 < c.depth) × (c.shift + c.depth ≤ 16)
 depth_bounds c h = grind (arith, nat_tests)
 
--- what the test of a component's place says
-place_bounds : (f : ℤ) (w step : ℕ) → (nat_le 1 step && nat_le step 8 && le_z (pos 0) f && le_z (f +ℤ pos w) (pos step)) ≡ true → (step ≤ 8) × (f ≡ pos (count_of f)) × (count_of f + w ≤ step)
-place_bounds (pos n) w step h = (grind (arith, nat_tests), refl, grind (arith, nat_tests))
-place_bounds (negsuc n) w step h = absurd (false≢true (and_parts (nat_le 1 step && nat_le step 8) false (and_parts (nat_le 1 step && nat_le step 8 && false) (le_z (negsuc n +ℤ pos w) (pos step)) h).0).1)
+-- what the test of a component's first byte says
+offset_bounds : (f : ℤ) (w step : ℕ) → (nat_le 1 step && nat_le step 8 && le_z (pos 0) f && le_z (f +ℤ pos w) (pos step)) ≡ true → (step ≤ 8) × (f ≡ pos (count_of f)) × (count_of f + w ≤ step)
+offset_bounds (pos n) w step h = (grind (arith, nat_tests), refl, grind (arith, nat_tests))
+offset_bounds (negsuc n) w step h = absurd (false≢true (and_parts (nat_le 1 step && nat_le step 8) false (and_parts (nat_le 1 step && nat_le step 8 && false) (le_z (negsuc n +ℤ pos w) (pos step)) h).0).1)
 
 -- five different numbers are not all below four
 distinct_below : (a b c d e : ℕ) → a < 4 → b < 4 → c < 4 → d < 4 → e < 4 → a ≢ b → a ≢ c → a ≢ d → a ≢ e → b ≢ c → b ≢ d → b ≢ e → c ≢ d → c ≢ e → d ≢ e → ⊥
@@ -99,15 +99,15 @@ plane_below desc j all most listed =
     ]
 
 -- two components that do not overlap read no common bit
-unlike_bits : (desc : Desc) (a b : Comp) (i k : ℕ) → overlap desc a b ≡ false → a.plane ≡ b.plane → i < a.depth → k < b.depth → bit_place desc a i ≢ bit_place desc b k
+unlike_bits : (desc : Desc) (a b : Comp) (i k : ℕ) → overlap desc a b ≡ false → a.plane ≡ b.plane → i < a.depth → k < b.depth → bit_position desc a i ≢ bit_position desc b k
 unlike_bits desc a b i k apart plane in_a in_b same =
-    let tests = and_cases (nat_eq a.plane b.plane) (list_any (λ m. reads_bit desc b (bit_place desc a m)) (range_with_len 0 a.depth)) apart in
+    let tests = and_cases (nat_eq a.plane b.plane) (list_any (λ m. reads_bit desc b (bit_position desc a m)) (range_with_len 0 a.depth)) apart in
     elim tests as (λ _. ⊥) [
       | inl other ↦ both_ways (nat_eq a.plane b.plane) other (eq-eqb a.plane b.plane plane)
       | inr none ↦
-          let unread = list_any-below_false (λ m. reads_bit desc b (bit_place desc a m)) a.depth i none in_a in
-          let unlike = list_any-below_false (λ m. int_eq (bit_place desc b m) (bit_place desc a i)) b.depth k unread in_b in
-          both_ways (int_eq (bit_place desc b k) (bit_place desc a i)) unlike ((Decides-int_eq (bit_place desc b k) (bit_place desc a i)).1 (sym same))
+          let unread = list_any-below_false (λ m. reads_bit desc b (bit_position desc a m)) a.depth i none in_a in
+          let unlike = list_any-below_false (λ m. int_eq (bit_position desc b m) (bit_position desc a i)) b.depth k unread in_b in
+          both_ways (int_eq (bit_position desc b k) (bit_position desc a i)) unlike ((Decides-int_eq (bit_position desc b k) (bit_position desc a i)).1 (sym same))
     ]
 
 -- the components of a plane have its step
@@ -123,7 +123,7 @@ laid_out desc v =
     let passed = has_no_fault desc v in
     let count = count_bounds desc.palette desc.rgb desc.alpha desc.count passed.counted in
     let depth_at = λ (j : ℕ) (listed : j < desc.count). depth_bounds (component_of desc j) (not-false (is_depth (component_of desc j)) (some_component-false desc (λ c. not (is_depth c)) j passed.deep listed)) in
-    let place_at = λ (j : ℕ) (listed : j < desc.count). place_bounds (first_byte desc (component_of desc j)) (bytes_read (component_of desc j)) (component_of desc j).step (not-false (is_inside desc (component_of desc j)) (some_component-false desc (λ c. not (is_inside desc c)) j passed.inside listed)) in
+    let bounds_at = λ (j : ℕ) (listed : j < desc.count). offset_bounds (first_byte desc (component_of desc j)) (bytes_read (component_of desc j)) (component_of desc j).step (not-false (is_inside desc (component_of desc j)) (some_component-false desc (λ c. not (is_inside desc c)) j passed.inside listed)) in
     record {
       some = count.0;
       most = count.1;
@@ -131,11 +131,11 @@ laid_out desc v =
       bits = λ j listed. (depth_at j listed).1;
       plane = λ j listed. plane_below desc j passed.planes count.1 listed;
       step = λ j listed. step_at desc j passed.unmixed listed;
-      small = λ j listed. (place_at j listed).0;
-      first = λ j listed. (place_at j listed).1;
-      inside = λ j listed. (place_at j listed).2;
+      small = λ j listed. (bounds_at j listed).0;
+      first = λ j listed. (bounds_at j listed).1;
+      inside = λ j listed. (bounds_at j listed).2;
       apart = λ i j a b first second differ plane in_a in_b.
-          elim (cases_order i j) as (λ _. bit_place desc (component_of desc i) a ≢ bit_place desc (component_of desc j) b) [
+          elim (cases_order i j) as (λ _. bit_position desc (component_of desc i) a ≢ bit_position desc (component_of desc j) b) [
             | inl same ↦ absurd (differ same)
             | inr (inl before) ↦ unlike_bits desc (component_of desc i) (component_of desc j) a b (some_pair-false desc (overlap desc) i j passed.apart before second) plane in_a in_b
             | inr (inr behind) ↦ λ e. unlike_bits desc (component_of desc j) (component_of desc i) b a (some_pair-false desc (overlap desc) j i passed.apart behind first) (sym plane) in_b in_a (sym e)

@@ -10,7 +10,7 @@ use Rattle.pix_desc.specs.declared.desc.Layout.TheVariants.{Elements, Word}
 use Rattle.pix_desc.specs.declared.desc.DescFault.{DescFault}
 use Rattle.pix_desc.specs.declared.desc.DescFault.TheVariants.{ComponentCount, DepthRange, Overlap, OutsideStep, MixedLayout, PlaneCount}
 use Rattle.pix_desc.specs.Frame.{plane_step}
-use Rattle.pix_desc.specs.Component.{components, component_of, bytes_read, first_byte, bit_place, reads_bit, count_of}
+use Rattle.pix_desc.specs.Component.{components, component_of, bytes_read, first_byte, bit_position, reads_bit, count_of}
 
 -- the numbers of components that the flags allow: palette, rgb, alpha
 abbrev pub is_count : Bool → Bool → Bool → ℕ → Bool
@@ -36,9 +36,9 @@ some_pair desc have = some_two have (components desc)
 abbrev pub is_depth : Comp → Bool
 is_depth c = nat_le 1 c.depth && nat_le c.depth 16 && nat_le (c.shift + c.depth) 16
 
--- two components read a bit at one place, and they lie in one plane, so that it is a common bit of the pixel
+-- whether two components read a bit at the same position, whatever their planes
 abbrev pub share_bit : Desc → Comp → Comp → Bool
-share_bit desc a b = list_any (λ i. reads_bit desc b (bit_place desc a i)) (range_with_len 0 a.depth)
+share_bit desc a b = list_any (λ i. reads_bit desc b (bit_position desc a i)) (range_with_len 0 a.depth)
 
 abbrev pub overlap : Desc → Comp → Comp → Bool
 overlap desc a b = nat_eq a.plane b.plane && share_bit desc a b
@@ -143,4 +143,4 @@ pub record IsLaidOut (desc : Desc) : Type 0 where
   pub first : (j : ℕ) → j < desc.count → first_byte desc (component_of desc j) ≡ pos (count_of (first_byte desc (component_of desc j)))
   pub inside : (j : ℕ) → j < desc.count → count_of (first_byte desc (component_of desc j)) + bytes_read (component_of desc j) ≤ (component_of desc j).step
   pub apart : (i j a b : ℕ) → i < desc.count → j < desc.count → i ≢ j → (component_of desc i).plane ≡ (component_of desc j).plane
-      → a < (component_of desc i).depth → b < (component_of desc j).depth → bit_place desc (component_of desc i) a ≢ bit_place desc (component_of desc j) b
+      → a < (component_of desc i).depth → b < (component_of desc j).depth → bit_position desc (component_of desc i) a ≢ bit_position desc (component_of desc j) b

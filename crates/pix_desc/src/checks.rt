@@ -3,9 +3,9 @@ ghost use Rattle.std.specs.Prelude.{◌≡◌, ◌≤◌, not, nat_eq, IsTrue, O
 ghost use Rattle.std.specs.List.{list_any, list_all, range_with_len};
 ghost use Rattle.pix_desc.specs.Layouts.{is_count, some_component, some_two, some_pair, is_depth, overlap, is_inside, differ_in_step, is_byte, is_index, is_mixed, has_all_planes, checked, IsValid};
 
-use crate::layout::is_elements;
-use crate::place::{bytes_read, components, first_byte, is_used, overlap};
-use crate::word::is_word;
+use crate::element_layout::is_elements;
+use crate::positions::{bytes_read, components, first_byte, is_used, overlap};
+use crate::word_layout::is_word;
 use crate::{Comp, Desc, DescFault, Layout};
 
 /// The layout of an accepted descriptor.

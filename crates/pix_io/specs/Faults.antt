@@ -1,12 +1,19 @@
--- When a call may answer a fault of a source or a sink: by the object's own count of faults, a u64 that stays at its last value.
-use Rattle.std.specs.Prelude.{◌≡◌, ℕ, ◌+◌, ◌-◌, ◌^◌, ◌≤◌, min, Result, OnOk, OnErr}
+-- When a call may answer a fault of a source or a sink: by the object's own count of faults. Each word takes what the object shows before and after.
+use Rattle.std.specs.Prelude.{◌≡◌, ℕ, ◌-◌, ◌^◌, ◌<◌, ◌≤◌, ◌⊎◌, Result, OnOk, OnErr}
+use Rattle.pix_io.specs.Shown.{Shown}
 
--- the count rose, or it stands at its last value
+-- the count rose, or it is the last number of a u64 after the call
 abbrev pub Rose : ℕ → ℕ → Type 0
-Rose before now = min (before + 1) (2 ^ 64 - 1) ≤ now
+Rose before now = (before < now) ⊎ (now ≡ 2 ^ 64 - 1)
 
--- the count never falls, a fault is answered only where it rose, and no rise is passed over
-pub record HasCause {T E : Type 0} (before now : ℕ) (result : Result T E) : Type 0 where
-  pub later : before ≤ now
-  pub failed : OnErr result (Rose before now)
-  pub kept : OnOk result (now ≡ before)
+-- the count never falls, a fault is answered only where it rose, no rise is passed over, and what the object was made with is as it was
+pub record HasCause {T E : Type 0} (old new : Shown) (result : Result T E) : Type 0 where
+  pub later : old.faults ≤ new.faults
+  pub failed : OnErr result (Rose old.faults new.faults)
+  pub kept : OnOk result (new.faults ≡ old.faults)
+  pub made : new.made_with ≡ old.made_with
+
+-- no call failed, and what the object was made with is as it was
+pub record HasNoFault (old new : Shown) : Type 0 where
+  pub faults : new.faults ≡ old.faults
+  pub made : new.made_with ≡ old.made_with

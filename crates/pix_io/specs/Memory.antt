@@ -1,7 +1,8 @@
 -- What is seen of the source and the sink in memory.
-use Rattle.std.specs.Prelude.{ℕ, List, drop}
+use Rattle.std.specs.Prelude.{ℕ, List, ◌∷◌, drop, Some}
 use Rattle.pix_io.specs.declared.mem_source.MemSource.{MemSource}
 use Rattle.pix_io.specs.declared.mem_sink.MemSink.{MemSink}
+use Rattle.pix_io.specs.Shown.{Shown}
 
 -- the bytes that are left to read
 abbrev pub bytes_left : MemSource → List ℕ
@@ -21,6 +22,10 @@ read_faults s = s.faults
 -- the numbers of the reads that fail
 abbrev pub failing_reads : MemSource → List ℕ
 failing_reads s = s.fails.items
+
+-- what it shows
+abbrev pub source_shown : MemSource → Shown
+source_shown s = record { bytes = Some (bytes_left s); faults = read_faults s; made_with = failing_reads s }
 
 -- the bytes written
 abbrev pub bytes_written : MemSink → List ℕ
@@ -43,3 +48,7 @@ write_faults s = s.faults
 -- the numbers of the writes that fail
 abbrev pub failing_writes : MemSink → List ℕ
 failing_writes s = s.fails.items
+
+-- what it shows
+abbrev pub sink_shown : MemSink → Shown
+sink_shown s = record { bytes = Some (bytes_written s); faults = write_faults s; made_with = room_of s ∷ failing_writes s }

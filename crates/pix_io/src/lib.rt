@@ -1,4 +1,4 @@
-// Where a conversion reads its bytes and writes them, and where the rows of a raw frame lie.
+//! Where a conversion reads its bytes and writes them, and where the rows of a raw frame lie.
 #![tactic(auto)]
 
 mod frame;

@@ -68,29 +68,25 @@ impl MemSink {
 }
 
 impl Sink for MemSink {
-    ghost use Rattle.std.specs.Prelude.{◌↔◌, ◌⊎◌, ◌∷◌, ◌+◌, ◌^◌, ◌-◌, min, length, Some, IsErr, IfOk, Contains};
+    ghost use Rattle.std.specs.Prelude.{◌≡◌, ◌<◌, ◌↔◌, ◌⊎◌, ◌+◌, ◌^◌, ◌-◌, min, length, IsErr, IfOk, OnErr, Contains};
     ghost use Rattle.std.specs.Io.{WritesAtMost};
     ghost use Rattle.std.specs.Io.KnownBytes.{WriteAppends};
     ghost use Rattle.pix_io.specs.Faults.{HasCause};
     ghost use Rattle.pix_io.specs.Streams.{TakesSome};
-    ghost use Rattle.pix_io.specs.Memory.{bytes_written, room_of, most_written, write_count, write_faults, failing_writes};
+    ghost use Rattle.pix_io.specs.Memory.{bytes_written, room_of, most_written, write_count, write_faults, failing_writes, sink_shown};
 
-    ghost written = { λ s. Some (bytes_written s) };
-
-    ghost faults = { λ s. write_faults s };
-
-    ghost made_with = { λ s. room_of s ∷ failing_writes s };
+    ghost shown = { λ s. sink_shown s };
 
     fn write(&mut self, piece: &[u8]) -> Result<usize, Failed>
         ensures bound { WritesAtMost result piece.now }
         ensures some { TakesSome result piece.now }
-        ensures bytes { WriteAppends (Some (bytes_written self.old)) (Some (bytes_written self.new)) result piece.now }
-        ensures cause { HasCause (write_faults self.old) (write_faults self.new) result }
-        ensures made { room_of self.new ∷ failing_writes self.new ≡ room_of self.old ∷ failing_writes self.old }
+        ensures bytes { WriteAppends (sink_shown self.old).bytes (sink_shown self.new).bytes result piece.now }
+        ensures cause { HasCause (sink_shown self.old) (sink_shown self.new) result }
 
         ensures size { IfOk result (λ n. n ≡ min (min (most_written self.old) (length piece.now)) (room_of self.old - length (bytes_written self.old))) }
         ensures piece { most_written self.new ≡ most_written self.old }
         ensures failed { IsErr result ↔ Contains (failing_writes self.old) (write_count self.old) ⊎ ((0 < length piece.now) × (length (bytes_written self.old) ≡ room_of self.old)) }
+        ensures raised { OnErr result (write_faults self.new ≡ min (write_faults self.old + 1) (2 ^ 64 - 1)) }
         ensures count { write_count self.new ≡ min (write_count self.old + 1) (2 ^ 64 - 1) }
     {
         let call = self.calls;

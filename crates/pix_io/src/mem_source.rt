@@ -50,27 +50,23 @@ impl MemSource {
 }
 
 impl Source for MemSource {
-    ghost use Rattle.std.specs.Prelude.{◌↔◌, ◌+◌, ◌^◌, ◌-◌, min, length, Some, IsErr, IfOk, Contains};
+    ghost use Rattle.std.specs.Prelude.{◌≡◌, ◌↔◌, ◌+◌, ◌^◌, ◌-◌, min, length, IsErr, IfOk, OnErr, Contains};
     ghost use Rattle.std.specs.Io.{ReadsAtMost};
     ghost use Rattle.std.specs.Io.KnownBytes.{ReadConsumes};
     ghost use Rattle.pix_io.specs.Faults.{HasCause};
-    ghost use Rattle.pix_io.specs.Memory.{bytes_left, most_read, read_count, read_faults, failing_reads};
+    ghost use Rattle.pix_io.specs.Memory.{bytes_left, most_read, read_count, read_faults, failing_reads, source_shown};
 
-    ghost left = { λ s. Some (bytes_left s) };
-
-    ghost faults = { λ s. read_faults s };
-
-    ghost made_with = { λ s. failing_reads s };
+    ghost shown = { λ s. source_shown s };
 
     fn read(&mut self, buf: &mut [u8]) -> Result<usize, Failed>
         ensures bound { ReadsAtMost result buf.new }
-        ensures bytes { ReadConsumes (Some (bytes_left self.old)) (Some (bytes_left self.new)) result buf.new }
-        ensures cause { HasCause (read_faults self.old) (read_faults self.new) result }
-        ensures made { failing_reads self.new ≡ failing_reads self.old }
+        ensures bytes { ReadConsumes (source_shown self.old).bytes (source_shown self.new).bytes result buf.new }
+        ensures cause { HasCause (source_shown self.old) (source_shown self.new) result }
 
         ensures size { IfOk result (λ n. n ≡ min (min (most_read self.old) (length buf.new)) (length (bytes_left self.old))) }
         ensures piece { most_read self.new ≡ most_read self.old }
         ensures failed { IsErr result ↔ Contains (failing_reads self.old) (read_count self.old) }
+        ensures raised { OnErr result (read_faults self.new ≡ min (read_faults self.old + 1) (2 ^ 64 - 1)) }
         ensures count { read_count self.new ≡ min (read_count self.old + 1) (2 ^ 64 - 1) }
     {
         let call = self.calls;

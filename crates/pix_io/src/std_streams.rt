@@ -14,20 +14,14 @@ pub struct ReadSource<R: Read> {
 impl<R: Read> ReadSource<R> {
     /// A source over this reader, with no fault so far.
     pub fn new(inner: R) -> Self
-        ensures left { ⟦<ReadSource<R> as Source>⟧.left result ≡ R.remaining inner }
-        ensures faults { ⟦<ReadSource<R> as Source>⟧.faults result ≡ 0 }
-        ensures made { ⟦<ReadSource<R> as Source>⟧.made_with result ≡ [] }
+        ensures shown { ⟦<ReadSource<R> as Source>⟧.shown result ≡ record { bytes = R.remaining inner; faults = 0; made_with = [] } }
     {
         ReadSource { inner, faults: 0 }
     }
 }
 
 impl<R: Read> Source for ReadSource<R> {
-    ghost left = { λ s. R.remaining s.inner };
-
-    ghost faults = { λ s. s.faults };
-
-    ghost made_with = { λ _. [] };
+    ghost shown = { λ s. record { bytes = R.remaining s.inner; faults = s.faults; made_with = [] } };
 
     fn read(&mut self, buf: &mut [u8]) -> Result<usize, Failed> {
         match self.inner.read(buf) {
@@ -51,20 +45,14 @@ pub struct WriteSink<W: Write> {
 impl<W: Write> WriteSink<W> {
     /// A sink over this writer, with no fault so far.
     pub fn new(inner: W) -> Self
-        ensures written { ⟦<WriteSink<W> as Sink>⟧.written result ≡ W.contents inner }
-        ensures faults { ⟦<WriteSink<W> as Sink>⟧.faults result ≡ 0 }
-        ensures made { ⟦<WriteSink<W> as Sink>⟧.made_with result ≡ [] }
+        ensures shown { ⟦<WriteSink<W> as Sink>⟧.shown result ≡ record { bytes = W.contents inner; faults = 0; made_with = [] } }
     {
         WriteSink { inner, faults: 0 }
     }
 }
 
 impl<W: Write> Sink for WriteSink<W> {
-    ghost written = { λ s. W.contents s.inner };
-
-    ghost faults = { λ s. s.faults };
-
-    ghost made_with = { λ _. [] };
+    ghost shown = { λ s. record { bytes = W.contents s.inner; faults = s.faults; made_with = [] } };
 
     fn write(&mut self, piece: &[u8]) -> Result<usize, Failed> {
         match self.inner.write(piece) {

@@ -1,8 +1,7 @@
 // Reads and writes that go on until all is done.
-ghost use Rattle.std.specs.Prelude.{◌≡◌, ◌<◌, length, IfOk, OnOk, OnErr};
-ghost use Rattle.std.specs.Io.KnownBytes.{Appends};
+ghost use Rattle.std.specs.Prelude.{◌<◌, length, IfOk, OnOk, OnErr};
 ghost use Rattle.pix_io.specs.Faults.{HasCause};
-ghost use Rattle.pix_io.specs.Streams.{IsInRange, TakesWhole, ConsumesPart, AppendsPart};
+ghost use Rattle.pix_io.specs.Streams.{IsInRange, TakesWhole, TakesPart, Writes, WritesPart};
 
 use crate::{Failed, Sink, Source};
 
@@ -20,13 +19,12 @@ pub enum Got {
 /// Fills the buffer from the input, as far as the input goes. The bytes taken stand at its front, in their order.
 ///
 /// `Failed` comes only where the input's count of faults rises; fewer bytes than the buffer has were then taken.
-pub fn read_whole<S: Source>(input: &mut S, buf: &mut [u8]) -> Result<Got, Failed>
+pub fn read_whole<In: Source>(input: &mut In, buf: &mut [u8]) -> Result<Got, Failed>
     requires { 0 < length buf.old }
-    ensures taken { IfOk result (λ got. TakesWhole (S.left input.old) (S.left input.new) got buf.new) }
+    ensures taken { IfOk result (λ got. TakesWhole (In.shown input.old) (In.shown input.new) got buf.new) }
     ensures range { IfOk result (λ got. IsInRange got (length buf.new)) }
-    ensures part_taken { OnErr result (ConsumesPart (S.left input.old) (S.left input.new) buf.new) }
-    ensures cause { HasCause (S.faults input.old) (S.faults input.new) result }
-    ensures made { S.made_with input.new ≡ S.made_with input.old }
+    ensures part_taken { OnErr result (TakesPart (In.shown input.old) (In.shown input.new) buf.new) }
+    ensures cause { HasCause (In.shown input.old) (In.shown input.new) result }
 {
     let mut filled = 0;
     while filled < buf.len() {
@@ -46,11 +44,10 @@ pub fn read_whole<S: Source>(input: &mut S, buf: &mut [u8]) -> Result<Got, Faile
 /// Writes the whole piece.
 ///
 /// `Failed` comes only where the output's count of faults rises; a front of the piece, shorter than it, was then written.
-pub fn write_all<K: Sink>(output: &mut K, piece: &[u8]) -> Result<(), Failed>
-    ensures appended { OnOk result (Appends (K.written output.old) (K.written output.new) piece.now) }
-    ensures part_appended { OnErr result (AppendsPart (K.written output.old) (K.written output.new) piece.now) }
-    ensures cause { HasCause (K.faults output.old) (K.faults output.new) result }
-    ensures made { K.made_with output.new ≡ K.made_with output.old }
+pub fn write_all<Out: Sink>(output: &mut Out, piece: &[u8]) -> Result<(), Failed>
+    ensures written { OnOk result (Writes (Out.shown output.old) (Out.shown output.new) piece.now) }
+    ensures part_written { OnErr result (WritesPart (Out.shown output.old) (Out.shown output.new) piece.now) }
+    ensures cause { HasCause (Out.shown output.old) (Out.shown output.new) result }
 {
     let mut done = 0;
     while done < piece.len() {

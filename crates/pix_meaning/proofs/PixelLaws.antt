@@ -7,7 +7,7 @@ use Rattle.pix_desc.specs.declared.desc.Desc.{Desc}
 use Rattle.pix_desc.specs.Component.{component_of}
 use Rattle.pix_desc.specs.Frame.{frame_component}
 use Rattle.pix_desc.specs.Layouts.{IsValid}
-use Rattle.pix_desc.proofs.FramePlaces.{byte_below, frame_component_below}
+use Rattle.pix_desc.proofs.BitPositions.{byte_below, frame_component_below}
 use Rattle.colour_matrix.specs.Levels.{from_code, to_code}
 use Rattle.colour_matrix.specs.Values.{Values, value_at}
 use Rattle.colour_matrix.proofs.Rows.{same_values}

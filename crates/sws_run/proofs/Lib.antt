@@ -1,12 +1,4 @@
-pub mod Taken
-pub mod Stream
-pub mod Refused
-pub mod Packed
-pub mod PackedCopies
-pub mod Members
-pub mod NamedMatrices
-pub mod TableClasses
-pub mod Evaluated
-pub mod TaskPairs
-pub mod ConvertedPixels
-pub mod ReadyFrames
+pub mod Parts
+pub mod Places
+pub mod Told
+pub mod Whole

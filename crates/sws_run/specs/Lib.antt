@@ -1,8 +1,9 @@
+pub mod Cut
 pub mod Ending
-pub mod Evaluated
-pub mod Sides
-pub mod Line
-pub mod PackedRgb
-pub mod Conversion
-pub mod Stream
+pub mod FormatList
+pub mod Frames
+pub mod NotesLine
+pub mod Output
+pub mod Request
 pub mod Run
+pub mod Sides

@@ -1,29 +1,22 @@
--- The two sides of a task, and what they are taken to have where nothing is said of it.
-use Rattle.std.specs.Prelude.{ℕ, Bool, not, ◌&&◌, if◌then◌else◌, nat_le, codes}
-use Rattle.std.specs.Str.{bytes_eq}
+-- The two sides of a conversion.
+use Rattle.std.specs.Prelude.{ℕ, Option, None, Some, unwrap_or}
+use Rattle.std.specs.Option.{option_or}
 use Rattle.colour_matrix.specs.declared.class.Range.{Range}
-use Rattle.colour_matrix.specs.declared.class.Range.TheVariants.{Full, Limited}
-use Rattle.colour_matrix.specs.Matrix.{bt601}
-use Rattle.pix_desc.specs.declared.desc.Desc.{Desc}
 use Rattle.pix_meaning.specs.declared.pair.Side.{Side}
 use Rattle.pix_meaning.specs.declared.pair.Pair.{Pair}
-use Rattle.pix_meaning.specs.Pairs.{is_rgb}
-use Rattle.desc_table.specs.Format.{desc_of, name_of}
-use Rattle.sws_run.specs.declared.words.Task.{Task}
-use Rattle.sws_run.specs.Evaluated.{side_at}
+use Rattle.row_plan.specs.Evaluated.{side_at}
+use Rattle.y4m_io.specs.declared.header.Header.{Header}
+use Rattle.y4m_io.specs.DefaultRange.{default_range}
+use Rattle.sws_run.specs.declared.request.Conversion.{Conversion}
 
--- a format of luma and chroma
-abbrev pub has_chroma : Desc → Bool
-has_chroma desc = not (is_rgb desc) && nat_le 3 desc.count
+-- the source: its format is the header's, and its range that of the words, or else the header's, or else its format's
+abbrev pub source_side : Conversion → Header → Side
+source_side conversion header =
+    side_at header.format conversion.source_matrix (unwrap_or (option_or conversion.source_range header.range) (default_range header.format))
 
--- Formats with chroma have limited codes, but yuvj444p has all (libavutil/pixfmt.h: "full scale (JPEG)"); gray and RGB formats have all.
-abbrev pub default_range : ℕ → Range
-default_range id = if has_chroma (desc_of id) && not (bytes_eq (name_of id) (codes "yuvj444p")) then Limited else Full
+-- the target: its range is that of the words, or else its format's
+abbrev pub target_side : Conversion → Side
+target_side conversion = side_at conversion.target conversion.target_matrix (unwrap_or conversion.target_range (default_range conversion.target))
 
--- a side with the matrix bt601 and the default range
-abbrev pub side_of : ℕ → Side
-side_of id = side_at id bt601 (default_range id)
-
--- rounded to the nearest, half up
-abbrev pub pair_of : Task → Pair
-pair_of task = record { from = side_of task.source; to = side_of task.target; dither = 0 }
+unfoldable pub pair_of : Conversion → Header → Pair
+pair_of conversion header = record { from = source_side conversion header; to = target_side conversion; dither = conversion.dither }

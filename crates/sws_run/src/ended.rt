@@ -3,50 +3,8 @@ ghost use Rattle.std.specs.Prelude.{◌≡◌};
 ghost use Rattle.sws_run.specs.Ending.{status_of};
 
 use desc_table::FormatFault;
-
-/// What is wrong with the words. Of several faults the one that stands first here is answered.
-#[derive(Clone, Copy, Debug, PartialEq, Eq)]
-pub enum UsageFault {
-    /// The words are not of the form `raw IN OUT WxH`.
-    Words,
-    /// The task is unknown. Not answered yet.
-    Task,
-    /// A required option is not given. Not answered yet.
-    Missing,
-    /// An option is given that the task does not have. Not answered yet.
-    Unwanted,
-    /// The size is not one to twenty digits, `x`, one to twenty digits.
-    Value,
-    /// Width or height is not 1 to 16,384, or their product is above 33,554,432.
-    Size,
-    /// The range of a side is fixed. Not answered yet.
-    FixedRange,
-    /// A range is limited on an RGB side. Not answered yet.
-    RgbRange,
-    /// The target format has no YUV4MPEG2 form. Not answered yet.
-    NotStreamFormat,
-}
-
-/// What is wrong with the bytes read.
-#[derive(Clone, Copy, Debug, PartialEq, Eq)]
-pub enum StreamFault {
-    /// The stream does not begin as a YUV4MPEG2 header. Not answered yet.
-    NoMagic,
-    /// A line of the stream is too long. Not answered yet.
-    LineTooLong,
-    /// A tag of the header is not known. Not answered yet.
-    BadTag,
-    /// The header lacks a width or a height. Not answered yet.
-    NoSize,
-    /// The width or the height is out of range. Not answered yet.
-    BadSize,
-    /// The colour space of the header is not supported. Not answered yet.
-    BadColour,
-    /// A frame does not begin with its line. Not answered yet.
-    NoFrameLine,
-    /// The input ends inside a frame. The only one that raw input can give.
-    Truncated,
-}
+use sws_words::UsageFault;
+use y4m_io::StreamFault;
 
 /// Which of the two format names is meant.
 #[derive(Clone, Copy, Debug, PartialEq, Eq)]
@@ -60,7 +18,8 @@ pub enum SideName {
 /// How a run ended. `frames` counts the frames written whole.
 #[derive(Clone, Copy, Debug, PartialEq, Eq)]
 pub enum Ended {
-    /// The input was read to its end, after a whole frame or nothing, and its target frames are written.
+    /// The input was read to its end, after a whole frame, a header, or nothing of raw form, and its target frames are written;
+    /// or the list of formats is.
     Done { frames: u32 },
     /// The words are refused. Nothing is read or written.
     Usage(UsageFault),
@@ -72,9 +31,9 @@ pub enum Ended {
     Stream { fault: StreamFault, frames: u32 },
     /// A read failed; the frames before it are written.
     ReadFault { frames: u32 },
-    /// A write failed; a part of the output is written. Its `frames` is not a part of what is promised yet.
+    /// A write failed; a part of the output is written.
     WriteFault { frames: u32 },
-    /// No memory was to be had.
+    /// No memory was to be had; nothing is written, or the frames before it are.
     OutOfMemory { frames: u32 },
     /// A byte follows 1,000,000 whole frames, which are written.
     TooManyFrames,

@@ -9,8 +9,8 @@ use Rattle.colour_matrix.specs.declared.matrix.Matrix.{Matrix}
 use Rattle.colour_matrix.specs.Matrix.{bt601, matrix_named}
 use Rattle.desc_table.specs.declared.fault.FormatFault.{FormatFault}
 use Rattle.desc_table.specs.Format.{format_count}
-use Rattle.desc_table.specs.Refused.{found}
-use Rattle.desc_table.proofs.Found.{found-Ok}
+use Rattle.desc_table.specs.Refused.{lookup}
+use Rattle.desc_table.proofs.Lookup.{lookup-Ok}
 use Rattle.sws_words.specs.Given.{form_given, matrix_given, number_given, side_given, size_given, source_given, target_given, value_of}
 use Rattle.sws_words.specs.Options.{CommandOption, is_barred, is_needed, options}
 use Rattle.sws_words.specs.Values.{form_named, is_frame_size, is_value, number_of, number_within, size_of}
@@ -84,11 +84,11 @@ matrix_has_name (Some name) = go (matrix_named name) refl
     go (Some m) is = (name, is)
 
 -- a format that is found is of the table
-found_below : (name : Text) → IfOk (found name) (λ id. id < format_count)
-found_below name = go (found name) refl
+found_below : (name : Text) → IfOk (lookup name) (λ id. id < format_count)
+found_below name = go (lookup name) refl
   where
-    go : (format : Result ℕ FormatFault) → found name ≡ format → IfOk format (λ id. id < format_count)
-    go (Ok id) is = (found-Ok name id is).0
+    go : (format : Result ℕ FormatFault) → lookup name ≡ format → IfOk format (λ id. id < format_count)
+    go (Ok id) is = (lookup-Ok name id is).0
     go (Err fault) is = tt
 
 side_of : (given : List Row) (name matrix range : Text) → has_fixed_range (side_given given name matrix range) ≡ false → has_rgb_range (side_given given name matrix range) ≡ false

@@ -1,0 +1,10 @@
+pub mod Packed
+pub mod PackedCopies
+pub mod Members
+pub mod NamedMatrices
+pub mod TableClasses
+pub mod Evaluated
+pub mod Written
+pub mod ConvertedPixels
+pub mod ConvertedRows
+pub mod PlannedPairs

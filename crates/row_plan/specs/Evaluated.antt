@@ -1,0 +1,30 @@
+-- Which pairs have a plan: the checked evaluation of their list has an answer at every pixel, as it has for all formats of the table.
+use Rattle.std.specs.Prelude.{◌≡◌, ◌<◌, false, ℕ, List, All, Some}
+use Rattle.colour_matrix.specs.declared.class.Range.{Range}
+use Rattle.colour_matrix.specs.declared.matrix.Matrix.{Matrix}
+use Rattle.colour_matrix.specs.Matrix.{matrix_named}
+use Rattle.desc_table.specs.Format.{desc_of}
+use Rattle.pix_meaning.specs.declared.pair.Side.{Side}
+use Rattle.pix_meaning.specs.declared.pair.Pair.{Pair}
+use Rattle.pix_meaning.specs.Pairs.{IsValidPair}
+use Rattle.op_list.specs.Run.{run, checked_run}
+use Rattle.op_build.specs.Recipe.{recipe}
+
+-- one of the matrices that have names
+pub record IsNamed (matrix : Matrix) : Type 0 where
+  pub name : List ℕ
+  pub found : matrix_named name ≡ Some matrix
+
+-- a side of a row of the table
+abbrev pub side_at : ℕ → Matrix → Range → Side
+side_at id matrix range = record { desc = desc_of id; matrix = matrix; range = range }
+
+-- the checked evaluation of every pixel has an answer, which is the exact one
+abbrev pub IsEvaluated : Pair → Type 0
+IsEvaluated pair = (frame : List ℕ) (width rows x row y : ℕ) → All (λ byte. byte < 256) frame
+    → checked_run (recipe pair) frame width rows x row y ≡ Some (run (recipe pair) frame width rows x row y)
+
+-- A pair that a plan may be asked for.
+pub record IsPlannable (pair : Pair) : Type 0 where
+  pub valid : IsValidPair pair
+  pub evaluated : pair.to.desc.palette ≡ false → IsEvaluated pair

@@ -1,0 +1,12 @@
+-- Slices of which some pixels are converted.
+use Rattle.std.specs.Prelude.{ℕ, List}
+use Rattle.pix_meaning.specs.declared.pair.Pair.{Pair}
+use Rattle.pix_meaning.specs.Target.{target_rows}
+use Rattle.op_list.specs.Store.{HaveSameElements}
+use Rattle.row_plan.specs.declared.rows.Elements.{Elements}
+use Rattle.row_plan.specs.declared.slice.Slice.{Slice}
+
+-- the output has the elements of the target rows at the first n pixels, counted row by row
+abbrev pub IsConverted : Pair → Elements → Slice → List ℕ → List ℕ → ℕ → Type 0
+IsConverted pair elements slice input output n =
+    HaveSameElements elements.elem elements.planes slice.width slice.rows n output (target_rows pair slice.width slice.rows slice.first input)

@@ -1,0 +1,27 @@
+// The laws of the run, each the contract of a function.
+ghost use Rattle.std.specs.Prelude.{◌<◌, ◌≤◌, ℕ, List};
+ghost use Rattle.colour_matrix.specs.declared.class.Range.{Range};
+ghost use Rattle.colour_matrix.specs.declared.matrix.Matrix.{Matrix};
+ghost use Rattle.desc_table.specs.Format.{format_count};
+ghost use Rattle.pix_meaning.specs.declared.pair.Pair.{Pair};
+ghost use Rattle.row_plan.specs.Evaluated.{IsNamed, IsEvaluated, side_at};
+ghost use Rattle.row_plan.specs.PackedRgb.{ArePackedFormats, CopiesPacked};
+
+/// Between any two formats of the table, with any of the five named matrices and both ranges on either side, and any dither,
+/// the numbers of every pixel's fractions fit 128 bits.
+pub fn every_pair_is_evaluated()
+    ensures { (from to dither : ℕ) (from_matrix to_matrix : Matrix) (from_range to_range : Range)
+        → from < format_count → to < format_count → IsNamed from_matrix → IsNamed to_matrix → dither ≤ 4
+        → IsEvaluated (record { from = side_at from from_matrix from_range; to = side_at to to_matrix to_range; dither = dither }) }
+{}
+
+/// Ten formats of the table are packed RGB formats of whole bytes.
+pub fn are_packed_formats()
+    ensures { ArePackedFormats }
+{}
+
+/// Between two RGB formats of one plane whose components are whole bytes the target frame has the source's components, each at
+/// its place, and opaque alpha where the source has none.
+pub fn copies_packed()
+    ensures { (pair : Pair) (width height : ℕ) (frame : List ℕ) → CopiesPacked pair width height frame }
+{}

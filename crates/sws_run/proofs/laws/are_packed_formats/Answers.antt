@@ -1,7 +1,0 @@
-use Rattle.std.proofs.Common.{refl}
-use Rattle.desc_table.specs.Format.{formats}
-use Rattle.sws_run.proofs.laws.are_packed_formats.Goals as goal
-
-pub returns : goal.returns
-unfolding formats
-returns c = refl

@@ -1,0 +1,6 @@
+pub mod LineExits
+pub mod LineFronts
+pub mod TagChains
+pub mod HeaderParts
+pub mod SpaceRows
+pub mod Extents

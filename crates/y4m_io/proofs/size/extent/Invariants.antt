@@ -1,0 +1,13 @@
+-- The number is that of the digits so far.
+use Rattle.std.proofs.Common.{◌≡◌, ◌≤◌, take, true}
+use Rattle.std.specs.List.{list_all}
+use Rattle.std.specs.Char.{is_ascii_digit}
+use Rattle.std.specs.Str.Parse.{digits_value}
+use Rattle.y4m_io.proofs.size.extent.Given as goal
+
+abbrev pub invariant-loop-digit : goal.invariant-loop-digit
+invariant-loop-digit l = record {
+  value : l.number ≡ digits_value 10 (take l.digit-index l.text);
+  digits : list_all is_ascii_digit (take l.digit-index l.text) ≡ true;
+  most : l.number ≤ 16384;
+}

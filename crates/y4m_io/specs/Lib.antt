@@ -1,0 +1,10 @@
+pub mod Lines
+pub mod Tags
+pub mod StreamFormats
+pub mod HeaderLine
+pub mod FrameLine
+pub mod DefaultRange
+pub mod HeaderText
+pub mod Reading
+pub mod LineKinds
+pub mod Spaces

@@ -1,0 +1,17 @@
+//! The header line and the frame lines of a YUV4MPEG2 stream, read and written.
+//!
+//! The grammar is in `specs/`, to be read in the order of `Lines`, `Tags`, `StreamFormats`, `HeaderLine`, `FrameLine` and
+//! `HeaderText`; `specs/Examples` has lines byte by byte.
+#![tactic(auto)]
+
+mod fault;
+mod header;
+mod header_line;
+mod line;
+mod size;
+mod stream_format;
+mod tags;
+
+pub use fault::{FrameLine, HeaderEnd, LineEnd, StreamFault};
+pub use header::{Header, TagText};
+pub use stream_format::is_stream_format;
