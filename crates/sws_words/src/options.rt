@@ -56,7 +56,8 @@ pub enum Values {
     Numbers { least: u64, most: u64 },
 }
 
-/// An option: its name without the two hyphens, which tasks have it, when they require it, and its values.
+/// An option: its name without the two hyphens, which tasks have it, when they require it, and its
+/// values.
 pub struct OptionRow {
     pub name: &'static str,
     pub owners: Owners,
