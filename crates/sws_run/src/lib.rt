@@ -3,6 +3,7 @@
 
 mod ended;
 mod frame;
+mod notes_line;
 mod request;
 mod run;
 
