@@ -1,3 +1,4 @@
+pub mod FormatLines
 pub mod Parts
 pub mod Places
 pub mod Told

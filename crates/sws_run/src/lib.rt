@@ -2,6 +2,7 @@
 #![tactic(auto)]
 
 mod ended;
+mod format_list;
 mod frame;
 mod notes_line;
 mod request;
