@@ -14,17 +14,17 @@ use Rattle.sws_run.proofs.Whole.{IsBelowFirst}
 pub cut_frame : (form : Form) (size most : ℕ) (bytes : List ℕ) (frame : Frame) → piece_cut form size bytes ≡ Whole frame
     → frames_cut form size (suc most) bytes ≡ with_frame frame (frames_cut form size most (drop frame.size bytes))
 unfolding frames_cut
-cut_frame form size most bytes frame is = rw is refl
+cut_frame form size most bytes frame is = rw (frames_cut, is) refl
 
 pub cut_nothing : (form : Form) (size most : ℕ) (bytes : List ℕ) → piece_cut form size bytes ≡ Nothing
     → frames_cut form size (suc most) bytes ≡ record { frames = []; end = Clean }
 unfolding frames_cut
-cut_nothing form size most bytes is = rw is refl
+cut_nothing form size most bytes is = rw (frames_cut, is) refl
 
 pub cut_faulty : (form : Form) (size most : ℕ) (bytes : List ℕ) (fault : StreamFault) → piece_cut form size bytes ≡ Faulty fault
     → frames_cut form size (suc most) bytes ≡ record { frames = []; end = Broken fault }
 unfolding frames_cut
-cut_faulty form size most bytes fault is = rw is refl
+cut_faulty form size most bytes fault is = rw (frames_cut, is) refl
 
 pub cut_last : (form : Form) (size : ℕ) (bytes : List ℕ) → frames_cut form size 0 bytes ≡ record { frames = []; end = last_end bytes }
 unfolding frames_cut

@@ -12,8 +12,8 @@ use Rattle.pix_io.proofs.Parts.{Consumes-behind}
 use Rattle.y4m_io.specs.declared.fault.StreamFault.TheVariants.{LineTooLong}
 use Rattle.y4m_io.specs.declared.line.LineKind.{LineKind}
 use Rattle.y4m_io.specs.Lines.{is_newline}
-use Rattle.y4m_io.specs.LineKinds.{is_front, wrong_word, cut_off, line_in}
-use Rattle.y4m_io.proofs.LineFronts.{line_in-whole, line_in-wrong, line_in-long, line_in-short}
+use Rattle.y4m_io.specs.LineKinds.{is_front, wrong_word, cut_off, line_in, IsNoLine}
+use Rattle.y4m_io.proofs.LineFronts.{is_front-nothing, line_in-whole, line_in-wrong, line_in-long, line_in-short}
 
 -- the bytes taken stand at the front of the buffer after one byte more was read into it
 pub taken-next : (a b c : Option (List ℕ)) (line buf : List ℕ) (size count : ℕ) → size ≤ length line → length buf ≡ 1 → count ≤ length buf → count ≢ 0
@@ -42,25 +42,28 @@ closed-next xs byte closed other =
 
 -- nothing was read at the end of the input
 pub short-answer : (kind : LineKind) (a b c : Option (List ℕ)) (xs : List ℕ) → Consumes a b xs → Consumes b c [] → IsAtEnd c
-    → list_any is_newline xs ≡ false → length xs ≤ 1024 → is_front kind xs ≡ true → IfSome a (λ bytes. line_in kind bytes ≡ Err (cut_off kind (length xs)))
-short-answer kind None b c xs before now end closed short same = tt
-short-answer kind (Some x) None c xs before now end closed short same = absurd before
-short-answer kind (Some x) (Some y) None xs before now end closed short same = absurd now
-short-answer kind (Some x) (Some y) (Some z) xs before now end closed short same =
+    → list_any is_newline xs ≡ false → 0 < length xs → length xs ≤ 1024 → is_front kind xs ≡ true → IfSome a (IsNoLine kind (cut_off kind (length xs)))
+short-answer kind None b c xs before now end closed some short same = tt
+short-answer kind (Some x) None c xs before now end closed some short same = absurd before
+short-answer kind (Some x) (Some y) None xs before now end closed some short same = absurd now
+short-answer kind (Some x) (Some y) (Some z) xs before now end closed some short same =
     let all : x ≡ xs = before ∙ ap (λ l. xs ++ l) (now ∙ end) ∙ append-nil xs in
-    rw all (line_in-short kind xs closed short same)
+    rw all (some, line_in-short kind xs closed short same)
 
 pub wrong-answer : (kind : LineKind) (a b : Option (List ℕ)) (xs : List ℕ) → Consumes a b xs → is_front kind xs ≡ false
-    → IfSome a (λ bytes. line_in kind bytes ≡ Err (wrong_word kind))
+    → IfSome a (IsNoLine kind (wrong_word kind))
 wrong-answer kind None b xs taken differs = tt
 wrong-answer kind (Some x) None xs taken differs = absurd taken
-wrong-answer kind (Some x) (Some y) xs taken differs = rw taken (line_in-wrong kind xs y differs)
+wrong-answer kind (Some x) (Some y) [] taken differs = let no : ⊥ = cc (is_front-nothing kind) in absurd no
+wrong-answer kind (Some x) (Some y) (first ∷ xs) taken differs = rw taken (omega arith, line_in-wrong kind (first ∷ xs) y differs)
 
 pub long-answer : (kind : LineKind) (a b : Option (List ℕ)) (xs : List ℕ) → Consumes a b xs → list_any is_newline xs ≡ false → 1024 < length xs → is_front kind xs ≡ true
-    → IfSome a (λ bytes. line_in kind bytes ≡ Err LineTooLong)
+    → IfSome a (IsNoLine kind LineTooLong)
 long-answer kind None b xs taken closed long same = tt
 long-answer kind (Some x) None xs taken closed long same = absurd taken
-long-answer kind (Some x) (Some y) xs taken closed long same = rw taken (line_in-long kind xs y closed long same)
+long-answer kind (Some x) (Some y) xs taken closed long same =
+    let more = length-append xs y in
+    rw taken (omega arith, line_in-long kind xs y closed long same)
 
 pub whole-answer : (kind : LineKind) (a b : Option (List ℕ)) (xs : List ℕ) (size : ℕ) → Consumes a b (xs ++ 10 ∷ []) → list_any is_newline xs ≡ false → length xs ≡ size → size ≤ 1024
     → is_front kind (xs ++ 10 ∷ []) ≡ true

@@ -15,7 +15,7 @@ use Rattle.y4m_io.specs.Lines.{is_newline, line_of, line_cut, agrees}
 use Rattle.y4m_io.specs.Tags.{magic}
 use Rattle.y4m_io.specs.HeaderLine.{is_header_front, has_magic, ends_word}
 use Rattle.y4m_io.specs.FrameLine.{frame_word, has_frame_word}
-use Rattle.y4m_io.specs.LineKinds.{is_front, has_word, wrong_word, cut_off, line_in}
+use Rattle.y4m_io.specs.LineKinds.{is_front, has_word, word_size, wrong_word, cut_off, line_in}
 
 or_first : (a b : Bool) → (a || b) ≡ false → a ≡ false
 or_first true b none = none
@@ -119,14 +119,22 @@ has_word-append Header xs ys long same =
 has_word-append Frame xs ys long same = agrees-append frame_word xs ys (omega arith) ∙ same
 
 -- the word stands in front of the newline
+pub word_size-newline : (kind : LineKind) (xs : List ℕ) → is_front kind (xs ++ 10 ∷ []) ≡ true → word_size kind ≤ length xs
+word_size-newline Header xs same = agrees-behind magic xs 10 refl (first_so _ _ same)
+word_size-newline Frame xs same = agrees-behind frame_word xs 10 refl same
+
 pub has_word-newline : (kind : LineKind) (xs rest : List ℕ) → is_front kind (xs ++ 10 ∷ []) ≡ true → has_word kind (xs ++ 10 ∷ rest) ≡ true
 has_word-newline Header xs rest same =
-    let behind = agrees-behind magic xs 10 refl (first_so _ _ same) in
+    let behind : 9 ≤ length xs = word_size-newline Header xs same in
     let long : 10 ≤ length (xs ++ 10 ∷ []) = omega (arith, behind, length-append xs (10 ∷ [])) in
     ap has_magic (sym (append_assoc xs (10 ∷ []) rest)) ∙ has_word-append Header (xs ++ 10 ∷ []) rest long same
 has_word-newline Frame xs rest same =
-    let behind = agrees-behind frame_word xs 10 refl same in
-    agrees-append frame_word xs (10 ∷ rest) behind ∙ agrees-front frame_word xs (10 ∷ []) same
+    agrees-append frame_word xs (10 ∷ rest) (word_size-newline Frame xs same) ∙ agrees-front frame_word xs (10 ∷ []) same
+
+-- nothing begins as every line does
+pub is_front-nothing : (kind : LineKind) → is_front kind [] ≡ true
+is_front-nothing Header = refl
+is_front-nothing Frame = refl
 
 -- bytes with the word begin as the line does
 pub is_front-word : (kind : LineKind) (bytes : List ℕ) → has_word kind bytes ≡ true → is_front kind bytes ≡ true

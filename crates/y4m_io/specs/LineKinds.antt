@@ -1,5 +1,5 @@
 -- The two kinds of lines, as the code that reads them tells them apart.
-use Rattle.std.specs.Prelude.{◌≡◌, ℕ, ◌+◌, ◌≤◌, Bool, List, length, take, IfSome, Result, Ok, Err, if◌then◌else◌, nat_lt}
+use Rattle.std.specs.Prelude.{◌≡◌, ℕ, ◌+◌, ◌<◌, ◌≤◌, Bool, List, length, take, IfSome, Result, Ok, Err, if◌then◌else◌, nat_lt}
 use Rattle.pix_io.specs.Shown.{Shown}
 use Rattle.pix_io.specs.Streams.{Takes}
 use Rattle.y4m_io.specs.declared.fault.StreamFault.{StreamFault}
@@ -34,10 +34,19 @@ cut_off Frame size = Truncated
 abbrev pub line_in : LineKind → List ℕ → Result (List ℕ) StreamFault
 line_in kind bytes = if has_word kind bytes then line_cut bytes else Err (wrong_word kind)
 
+-- there are bytes, and what they begin with is no line of this kind
+abbrev pub IsNoLine : LineKind → StreamFault → List ℕ → Type 0
+IsNoLine kind fault bytes = (0 < length bytes) × (line_in kind bytes ≡ Err fault)
+
+-- how many bytes the word of a line has
+abbrev pub word_size : LineKind → ℕ
+word_size Header = 9
+word_size Frame = 5
+
 -- the bytes left began with the line that stands in the buffer's first bytes, and exactly the line was taken
 abbrev pub TakesLine : LineKind → Shown → Shown → List ℕ → ℕ → Type 0
 TakesLine kind old new buf size =
-    (size ≤ 1024) × IfSome old.bytes (λ bytes. (line_in kind bytes ≡ Ok (take size buf)) × Takes old new (take (size + 1) bytes))
+    (word_size kind ≤ size) × (size ≤ 1024) × IfSome old.bytes (λ bytes. (line_in kind bytes ≡ Ok (take size buf)) × Takes old new (take (size + 1) bytes))
 
 -- the faults that are found before the line is read to its end
 abbrev pub IsLineFault : LineKind → StreamFault → Type 0

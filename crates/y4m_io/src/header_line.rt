@@ -1,5 +1,5 @@
 // A header line: its tags, and what they say.
-ghost use Rattle.std.specs.Prelude.{◌≡◌, filter, option_copied, Ok, Err, IfSome, IfOk, IfErr, OnErr, take, drop};
+ghost use Rattle.std.specs.Prelude.{◌≡◌, filter, option_copied, Ok, Err, IfSome, IfOk, IfErr, OnErr};
 ghost use Rattle.std.specs.List.{slice_split};
 ghost use Rattle.pix_io.specs.Faults.{HasCause};
 ghost use Rattle.y4m_io.specs.Tags.{is_space, is_tag};
@@ -56,4 +56,28 @@ fn header_of(alloc: Global, tags: &[u8]) -> Result<Header, HeaderEnd>
         interlace: copied(alloc, last_text(tags, b'I'))?,
         aspect: copied(alloc, last_text(tags, b'A'))?,
     })
+}
+
+/// Reads the header of a stream. Where it answers a header, exactly the header's line is taken, its newline with it; else a
+/// front of the bytes that were left, which after a failed read does not have the line's newline.
+///
+/// What is wrong is found in this order: `NoMagic`, `LineTooLong`, `Truncated`, `BadTag`, `NoSize`, `BadSize`, `BadColour`.
+/// A line that begins wrongly is read to its first wrong byte at most. `ReadFault` comes only where the input's count of
+/// faults rises, and only the texts of the header take memory. The input is not read again after its end.
+pub fn read_header<In: Source>(alloc: Global, input: &mut In) -> Result<Header, HeaderEnd>
+    ensures header { IfOk result (TakesHeader (In.shown input.old) (In.shown input.new)) }
+    ensures sound { IfOk result IsSoundHeader }
+    ensures fault { IfErr result (λ end. IfSome (header_fault end) (λ fault. IfSome (In.shown input.old).bytes (λ bytes. header_cut bytes ≡ Err fault))) }
+    ensures known { IfErr result (λ end. IfSome (header_fault end) IsHeaderFault) }
+    ensures front { OnErr result (TakesFront (In.shown input.old) (In.shown input.new)) }
+    ensures read_fault { OnErr (header_reads result) (TakesOpen (In.shown input.old) (In.shown input.new)) }
+    ensures cause { HasCause (In.shown input.old) (In.shown input.new) (header_reads result) }
+{
+    let mut line = [0; LINE_SIZE];
+    match read_line(LineKind::Header, input, &mut line) {
+        Ok(Some(size)) => header_of(alloc, &line[9..size]),
+        Ok(None) => Err(HeaderEnd::Stream(StreamFault::NoMagic)),
+        Err(LineEnd::Stream(fault)) => Err(HeaderEnd::Stream(fault)),
+        Err(LineEnd::ReadFault) => Err(HeaderEnd::ReadFault),
+    }
 }

@@ -5,6 +5,7 @@
 #![tactic(auto)]
 
 mod fault;
+mod frame_line;
 mod header;
 mod header_line;
 mod line;
@@ -13,5 +14,7 @@ mod stream_format;
 mod tags;
 
 pub use fault::{FrameLine, HeaderEnd, LineEnd, StreamFault};
+pub use frame_line::read_frame_line;
 pub use header::{Header, TagText};
+pub use header_line::read_header;
 pub use stream_format::is_stream_format;

@@ -5,7 +5,7 @@ ghost use Rattle.pix_io.specs.Streams.{Takes, HasEnded};
 ghost use Rattle.y4m_io.specs.Lines.{agrees};
 ghost use Rattle.y4m_io.specs.HeaderLine.{is_header_front};
 ghost use Rattle.y4m_io.specs.Reading.{line_fault, line_reads, TakesFront, TakesOpen};
-ghost use Rattle.y4m_io.specs.LineKinds.{is_front, wrong_word, cut_off, line_in, TakesLine, IsLineFault};
+ghost use Rattle.y4m_io.specs.LineKinds.{is_front, wrong_word, cut_off, IsNoLine, TakesLine, IsLineFault};
 
 use crate::{LineEnd, StreamFault};
 use pix_io::Source;
@@ -78,7 +78,7 @@ pub(crate) fn read_line<In: Source>(
     requires { length line.old ≡ LINE_SIZE }
     ensures line { IfOk result (λ size. IfSome size (TakesLine kind (In.shown input.old) (In.shown input.new) line.new)) }
     ensures end { IfOk result (λ size. IfNone size (Takes (In.shown input.old) (In.shown input.new) [] × HasEnded (In.shown input.new))) }
-    ensures fault { IfErr result (λ end. IfSome (line_fault end) (λ fault. IfSome (In.shown input.old).bytes (λ bytes. line_in kind bytes ≡ Err fault))) }
+    ensures fault { IfErr result (λ end. IfSome (line_fault end) (λ fault. IfSome (In.shown input.old).bytes (IsNoLine kind fault))) }
     ensures known { IfErr result (λ end. IfSome (line_fault end) (IsLineFault kind)) }
     ensures front { OnErr result (TakesFront (In.shown input.old) (In.shown input.new)) }
     ensures read_fault { OnErr (line_reads result) (TakesOpen (In.shown input.old) (In.shown input.new)) }
