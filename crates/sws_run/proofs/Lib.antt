@@ -1,4 +1,9 @@
-pub mod Taken
-pub mod Stream
-pub mod Refused
-pub mod TaskPairs
+pub mod FormatLines
+pub mod Fronts
+pub mod Last
+pub mod Parts
+pub mod Places
+pub mod Sound
+pub mod Told
+pub mod Whole
+pub mod Written

@@ -1,5 +1,9 @@
+pub mod Cut
 pub mod Ending
-pub mod Sides
-pub mod Line
-pub mod Stream
+pub mod FormatList
+pub mod Frames
+pub mod NotesLine
+pub mod Output
+pub mod Request
 pub mod Run
+pub mod Sides

@@ -14,17 +14,11 @@ use Rattle.sws_run.specs.Cut.{frames_within}
 use Rattle.sws_run.specs.NotesLine.{line_of}
 use Rattle.sws_run.specs.Output.{input_by, output_by, ending_by, text_of, text_after, text_for, frames_in}
 
--- a fact of a run that converts, which no other run meets
-abbrev pub IfConverts : Result Request Ended → Type 0 → Type 0
-IfConverts (Ok (request.Convert conversion)) P = P
-IfConverts (Ok request.List) P = ⊥
-IfConverts (Err refusal) P = ⊥
-
--- a fact of a run that converts nothing
-abbrev pub UnlessConverts : Result Request Ended → Type 0 → Type 0
-UnlessConverts (Ok (request.Convert conversion)) P = Unit {0}
-UnlessConverts (Ok request.List) P = P
-UnlessConverts (Err refusal) P = P
+-- the run converts a stream
+abbrev pub IsConversion : Result Request Ended → Type 0
+IsConversion (Ok (request.Convert conversion)) = Unit {0}
+IsConversion (Ok request.List) = ⊥
+IsConversion (Err refusal) = ⊥
 
 -- the bytes by which a run goes: those of the source, and none where it converts nothing
 abbrev pub bytes_by : Result Request Ended → Shown → Option (List ℕ)
@@ -51,14 +45,14 @@ pub record GivesAnswer (asked : Result Request Ended) (source source' sink sink'
   pub words : IsDecided ended → AgreesWith asked ended
   pub ending : IsDecided ended → IfSome (bytes_by asked source) (λ bytes. ended ≡ ending_by asked bytes)
   pub output : IsDecided ended → IfSome (bytes_by asked source) (λ bytes. Writes sink sink' (text_of (output_by asked bytes)))
-  pub read : IfDone ended (IfConverts asked (HasEnded source') ⊎ UnlessConverts asked (source' ≡ source))
-  pub unread : UnlessConverts asked (source' ≡ source)
+  pub read : IfDone ended (IsConversion asked → HasEnded source')
+  pub unread : (IsConversion asked → ⊥) → source' ≡ source
   pub refused : IfErr asked (λ refusal. sink' ≡ sink)
 
 -- Read fault: it comes only at a conversion, and only where the source's count rose. The frames are those that lie wholly in the bytes taken, and the
 -- output for these bytes was written.
 pub record GivesReadFault (asked : Result Request Ended) (source source' sink sink' : Shown) (ended : Ended) : Type 0 where
-  pub cause : IfReadFault ended (λ frames. IfConverts asked (Rose source.faults source'.faults))
+  pub cause : IfReadFault ended (λ frames. IsConversion asked × Rose source.faults source'.faults)
   pub place : IfReadFault ended (λ frames. IfTaken source.bytes source'.bytes (λ bytes n.
       (frames ≡ frames_within (input_by asked bytes) n) × Writes sink sink' (text_for (input_by asked bytes) (output_by asked bytes) n)))
 
@@ -72,7 +66,7 @@ pub record GivesWriteFault (asked : Result Request Ended) (source source' sink s
 -- Memory: at want of memory nothing was written and no frame is told; or, at a conversion, the output after its frames was written, and the input has
 -- as many.
 pub record GivesOutOfMemory (asked : Result Request Ended) (source source' sink sink' : Shown) (ended : Ended) : Type 0 where
-  pub output : IfOutOfMemory ended (λ frames. ((frames ≡ 0) × Writes sink sink' []) ⊎ IfConverts asked (IfSome source.bytes (λ bytes.
+  pub output : IfOutOfMemory ended (λ frames. ((frames ≡ 0) × Writes sink sink' []) ⊎ (IsConversion asked × IfSome source.bytes (λ bytes.
       (frames ≤ length (input_by asked bytes).frames) × Writes sink sink' (text_after (output_by asked bytes) frames))))
 
 -- Notes: the line of the ending was written and none of their calls failed; or their count rose, and a front of the line was written. What they were

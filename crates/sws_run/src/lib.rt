@@ -2,13 +2,10 @@
 #![tactic(auto)]
 
 mod ended;
+mod format_list;
+mod frame;
+mod notes_line;
+mod request;
 mod run;
-mod sides;
-mod top;
-mod words;
 
-pub use ended::{Ended, SideName, StreamFault, UsageFault};
-pub use top::{Gate, OpenGate, run_sws};
-
-#[cfg(test)]
-mod tests;
+pub use ended::{Ended, SideName};

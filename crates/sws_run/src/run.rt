@@ -1,65 +1,67 @@
-// The run of a task: frame after frame.
-ghost use Rattle.std.specs.Prelude.{◌≡◌, ◌<◌, ◌≤◌, length, Ok};
+// The run over the frames of an input: frame after frame.
+ghost use Rattle.std.specs.Prelude.{◌≡◌, ◌<◌, ◌≤◌, length};
 ghost use Rattle.pix_desc.specs.Frame.{frame_length};
-ghost use Rattle.desc_table.specs.Format.{desc_of};
-ghost use Rattle.sws_run.specs.Line.{IsSound};
-ghost use Rattle.sws_run.specs.Sides.{pair_of};
-ghost use Rattle.sws_run.specs.Stream.{source_length};
-ghost use Rattle.sws_run.specs.Run.{GivesAnswer, GivesReadFault, GivesWriteFault, GivesOutOfMemory, IsComplete};
+ghost use Rattle.sws_run.specs.Ending.{IfOutOfMemory};
+ghost use Rattle.sws_run.specs.Run.{IsComplete};
+ghost use Rattle.sws_run.specs.Frames.{EndsFrames, StopsReading, StopsWriting};
 
-use crate::words::Task;
-use crate::{Ended, StreamFault};
-use pix_io::{Got, Sink, Source, read_whole, write_all};
+use crate::Ended;
+use crate::frame::{Next, is_at_end, read_frame, write_frame};
+use pix_io::{Sink, Source};
 use row_plan::Plan;
+use sws_words::Form;
+use y4m_io::LineEnd;
 
+// An input has at most so many frames.
 const MAX_FRAMES: u32 = 1_000_000;
 
-/// Converts the frames of the input one after the other, in a buffer for a source frame and one for its target frame.
-pub fn convert_frames<S: Source, K: Sink>(
-    task: &Task,
-    plan: &Plan,
-    input: &mut S,
-    output: &mut K,
-    frame: &mut [u8],
-    target_frame: &mut [u8],
-) -> Ended
-    requires sound { IsSound task.now }
-    requires plan { plan.now.pair ≡ pair_of task.now }
-    requires frame { length frame.old ≡ source_length task.now }
-    requires target_frame { length target_frame.old ≡ frame_length (desc_of task.now.target) task.now.width task.now.height }
+/// What is made once for a stream.
+#[derive(Drop)]
+pub struct Converter {
+    pub plan: Plan,
+    /// In pixels, 1 to 16,384.
+    pub width: u32,
+    /// In pixels, 1 to 16,384.
+    pub height: u32,
+    pub source_form: Form,
+    pub target_form: Form,
+}
 
-    ensures answer { GivesAnswer (Ok task.now) (S.left input.old) (S.left input.new) (K.written output.old) (K.written output.new) result }
-    ensures read_fault { GivesReadFault (Ok task.now) (S.left input.old) (K.written output.old) (K.written output.new)
-        (S.faults input.old) (S.faults input.new) result }
-    ensures write_fault { GivesWriteFault (Ok task.now) (S.left input.old) (K.written output.old) (K.written output.new)
-        (K.faults output.old) (K.faults output.new) result }
-    ensures memory { GivesOutOfMemory (Ok task.now) (S.left input.old) (K.written output.old) (K.written output.new) result }
-    ensures complete { IsComplete (S.faults input.old) (S.faults input.new) (K.faults output.old) (K.faults output.new)
-        (S.made_with input.old) (S.made_with input.new) (K.made_with output.old) (K.made_with output.new) result }
+/// Converts the frames of the input one after the other, in a buffer for a source frame and one for its target frame.
+pub fn convert_frames<In: Source, Out: Sink>(
+    converter: &Converter,
+    input: &mut In,
+    output: &mut Out,
+    frame: &mut [u8],
+    target: &mut [u8],
+) -> Ended
+    requires height { converter.now.height ≤ 16384 }
+    requires some { 0 < length frame.old }
+    requires frame { length frame.old ≡ frame_length converter.now.plan.pair.from.desc converter.now.width converter.now.height }
+    requires target { length target.old ≡ frame_length converter.now.plan.pair.to.desc converter.now.width converter.now.height }
+
+    ensures answer { EndsFrames converter.now (length frame.old) (In.shown input.old) (In.shown input.new) (Out.shown output.old) (Out.shown output.new) result }
+    ensures read_fault { StopsReading converter.now (length frame.old) (In.shown input.old) (In.shown input.new) (Out.shown output.old) (Out.shown output.new) result }
+    ensures write_fault { StopsWriting converter.now (length frame.old) (In.shown input.old) (In.shown input.new) (Out.shown output.old) (Out.shown output.new) result }
+    ensures memory { IfOutOfMemory result (λ _. ⊥) }
+    ensures complete { IsComplete (In.shown input.old) (In.shown input.new) (Out.shown output.old) (Out.shown output.new) result }
 {
     for done in 0..MAX_FRAMES {
-        match read_whole(input, frame) {
-            Ok(Got::Whole) => {}
-            Ok(Got::End) => return Ended::Done { frames: done },
-            Ok(Got::Short(_)) => {
-                return Ended::Stream {
-                    fault: StreamFault::Truncated,
-                    frames: done,
-                };
-            }
-            Err(_) => return Ended::ReadFault { frames: done },
+        match read_frame(converter.source_form, input, frame) {
+            Ok(Next::Frame) => {}
+            Ok(Next::End) => return Ended::Done { frames: done },
+            Err(LineEnd::Stream(fault)) => return Ended::Stream { fault, frames: done },
+            Err(LineEnd::ReadFault) => return Ended::ReadFault { frames: done },
         }
-        plan.convert_rows(0, task.width, task.height, frame, target_frame);
-        match write_all(output, target_frame) {
+        converter.plan.convert_rows(0, converter.width, converter.height, frame, target);
+        match write_frame(converter.target_form, output, target) {
             Ok(()) => {}
             Err(_) => return Ended::WriteFault { frames: done },
         }
     }
-    let mut byte = [0];
-    match read_whole(input, &mut byte) {
-        Ok(Got::End) => Ended::Done { frames: MAX_FRAMES },
-        Ok(Got::Whole) => Ended::TooManyFrames,
-        Ok(Got::Short(_)) => unreachable!(),
+    match is_at_end(input) {
+        Ok(true) => Ended::Done { frames: MAX_FRAMES },
+        Ok(false) => Ended::TooManyFrames,
         Err(_) => Ended::ReadFault { frames: MAX_FRAMES },
     }
 }

@@ -1,1 +1,2 @@
 pub mod OptionRows
+pub mod Sound

@@ -1,6 +1,5 @@
 -- What is given: the options that stand in the words, with their values.
-use Prim.Native.String.{String}
-use Rattle.std.specs.Prelude.{ℕ, Bool, List, [], codes, Option, Some, is_some, unwrap_or, option_and_then, option_map}
+use Rattle.std.specs.Prelude.{ℕ, List, [], codes, Option, Some, unwrap_or, option_and_then, option_map}
 use Rattle.std.specs.Option.{option_map_or}
 use Rattle.clap.specs.Walk.{Row, Text, first_of, rows_of}
 use Rattle.clap.specs.Matches.{found_of}
@@ -8,7 +7,7 @@ use Rattle.clap.specs.declared.parser.matches.ArgMatches.{ArgMatches}
 use Rattle.colour_matrix.specs.declared.class.Range.{Range}
 use Rattle.colour_matrix.specs.declared.matrix.Matrix.{Matrix}
 use Rattle.colour_matrix.specs.Matrix.{bt601, matrix_named}
-use Rattle.desc_table.specs.Refused.{found}
+use Rattle.desc_table.specs.Refused.{lookup}
 use Rattle.sws_words.specs.Values.{form_named, number_within, range_named, size_of, task_named}
 use Rattle.sws_words.specs.declared.task.Form.{Form}
 use Rattle.sws_words.specs.declared.task.Form.TheVariants.{Raw}
@@ -50,7 +49,7 @@ number_given given name least most = option_and_then (number_within least most) 
 
 -- a side: what its name finds, its matrix and its range
 abbrev pub side_given : List Row → Text → Text → Text → Named
-side_given given name matrix range = record { format = found name; matrix = matrix_given given matrix; range = range_given given range }
+side_given given name matrix range = record { format = lookup name; matrix = matrix_given given matrix; range = range_given given range }
 
 -- the source, where its format is named
 unfoldable pub source_given : List Row → Option Named

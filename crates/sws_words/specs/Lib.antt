@@ -1,5 +1,6 @@
 pub mod Command
 pub mod Given
+pub mod Lines
 pub mod Options
 pub mod Rules
 pub mod Task

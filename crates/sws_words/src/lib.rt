@@ -3,9 +3,12 @@
 
 mod fault;
 mod given;
+pub mod laws;
 mod options;
 mod rules;
 mod task;
+#[cfg(test)]
+mod tests;
 mod values;
 mod words;
 

@@ -1,0 +1,180 @@
+-- A frame behind its line, as it is read.
+use Rattle.std.proofs.Common.{◌≡◌, true, false, Bool, ℕ, zero, suc, ◌+◌, ◌-◌, ◌<◌, ◌≤◌, List, [], ◌∷◌, ◌++◌, length, refl, sym, ap, ◌∙◌, arith, subst, take, drop, length-append, length-drop, length-take-le, take_at, drop_at, Result, Ok, Err, if◌then◌else◌, IfSome, append-nil, nat_le, nat_eq, nat_lt}
+use Rattle.std.proofs.lemmas.Bool.Decides.{nat_tests}
+use Rattle.std.specs.declared.option.Option.{Option}
+use Rattle.std.specs.declared.option.Option.TheVariants.{None, Some}
+use Rattle.std.specs.List.{list_any}
+use Rattle.sws_words.specs.declared.task.Form.{Form}
+use Rattle.sws_words.specs.declared.task.Form.TheVariants.{Raw, Y4m}
+use Rattle.y4m_io.specs.declared.fault.StreamFault.{StreamFault}
+use Rattle.y4m_io.specs.declared.fault.StreamFault.TheVariants.{LineTooLong, Truncated, NoFrameLine}
+use Rattle.y4m_io.specs.Lines.{is_newline, line_of, line_cut}
+use Rattle.y4m_io.specs.FrameLine.{frame_line_cut, frame_line_in, has_frame_word}
+use Rattle.y4m_io.proofs.LineFronts.{line_of-append}
+use Rattle.sws_run.specs.Cut.{Frame, Piece, Nothing, Whole, Faulty, front_cut, piece_behind, piece_cut}
+use Rattle.sws_run.specs.Frames.{IsBehind, IsShort, TakesFrame, TakesPiece}
+use Rattle.sws_run.proofs.Places.{behind_then}
+
+-- ---- lines
+
+line_of-at : (b : Bool) (byte : ℕ) (bytes : List ℕ) → is_newline byte ≡ b → length (line_of bytes) ≤ length bytes → length (line_of (byte ∷ bytes)) ≤ length (byte ∷ bytes)
+line_of-at true byte bytes is below = grind (arith, is)
+line_of-at false byte bytes is below = grind (arith, is, below)
+
+length-line_of : (bytes : List ℕ) → length (line_of bytes) ≤ length bytes
+length-line_of [] = omega arith
+length-line_of (byte ∷ bytes) = line_of-at (is_newline byte) byte bytes refl (length-line_of bytes)
+
+-- a line that is cut off is followed by its newline
+cut_at : (front bytes line : List ℕ) (long whole : Bool) → length front ≤ length bytes → nat_eq (length front) (length bytes) ≡ whole
+    → (if long then Err LineTooLong else (if whole then Err Truncated else Ok front)) ≡ Ok line → (line ≡ front) × (length line + 1 ≤ length bytes)
+cut_at front bytes line true whole below same is = absurd (cc)
+cut_at front bytes line false true below same is = absurd (cc)
+cut_at front bytes line false false below same is =
+    let e : line ≡ front = cc in
+    let more : length line + 1 ≤ length bytes = grind (arith, nat_tests, same, ap length e, below) in (e, more)
+
+pub line_cut-size : (bytes line : List ℕ) → line_cut bytes ≡ Ok line → (line ≡ line_of bytes) × (length line + 1 ≤ length bytes)
+unfolding line_cut
+line_cut-size bytes line is =
+    cut_at (line_of bytes) bytes line (nat_lt 1024 (length (line_of bytes))) (nat_eq (length (line_of bytes)) (length bytes)) (length-line_of bytes) refl is
+
+-- bytes without a newline are fewer than the line has, with its newline, that they begin
+pub line_cut-open : (front rest line : List ℕ) → list_any is_newline front ≡ false → line_cut (front ++ rest) ≡ Ok line → length front < length line + 1
+line_cut-open front rest line none is =
+    let e : line ≡ front ++ line_of rest = (line_cut-size (front ++ rest) line is).0 ∙ line_of-append front rest none in
+    omega (arith, ap length e, length-append front (line_of rest))
+
+-- the line in front of a frame is a line
+line_found : (bytes : List ℕ) (size : ℕ) (front : Bool) (cut : Result (List ℕ) StreamFault) → line_cut bytes ≡ cut → (if front then frame_line_in cut else Err NoFrameLine) ≡ Ok (Some size)
+    → (line : List ℕ) × (line_cut bytes ≡ Ok line) × (length line + 1 ≡ size)
+line_found bytes size false cut same is = absurd (cc)
+line_found bytes size true (Err fault) same is = absurd (cc)
+line_found bytes size true (Ok line) same is = (line, same, cc)
+
+frame_line_cut-line : (bytes : List ℕ) (size : ℕ) → frame_line_cut bytes ≡ Ok (Some size) → (line : List ℕ) × (line_cut bytes ≡ Ok line) × (length line + 1 ≡ size)
+unfolding frame_line_cut
+frame_line_cut-line [] size is = absurd (cc)
+frame_line_cut-line (first ∷ rest) size is = line_found (first ∷ rest) size (has_frame_word (first ∷ rest)) (line_cut (first ∷ rest)) refl is
+
+pub frame_line_cut-size : (bytes : List ℕ) (size : ℕ) → frame_line_cut bytes ≡ Ok (Some size) → size ≤ length bytes
+frame_line_cut-size bytes size is =
+    let line = frame_line_cut-line bytes size is in
+    let below = (line_cut-size bytes line.0 line.1).1 in
+    omega (arith, below, line.2)
+
+pub frame_line_cut-open : (front rest : List ℕ) (size : ℕ) → list_any is_newline front ≡ false → frame_line_cut (front ++ rest) ≡ Ok (Some size) → length front < size
+frame_line_cut-open front rest size none is =
+    let line = frame_line_cut-line (front ++ rest) size is in
+    let below = line_cut-open front rest line.0 none line.1 in
+    omega (arith, below, line.2)
+
+-- ---- pieces
+
+piece_front : (form : Form) (size : ℕ) (bytes : List ℕ) (front : Result (Option ℕ) StreamFault) → front_cut form bytes ≡ front → piece_cut form size bytes ≡ piece_behind size bytes front
+unfolding piece_cut
+piece_front form size bytes front is = ap (piece_behind size bytes) is
+
+piece_enough : (front size : ℕ) (bytes : List ℕ) → front + size ≤ length bytes
+    → piece_behind size bytes (Ok (Some front)) ≡ Whole (record { bytes = take size (drop front bytes); size = front + size })
+piece_enough front size bytes fits = grind (arith, nat_tests, fits)
+
+piece_few : (front size : ℕ) (bytes : List ℕ) → length bytes < front + size → piece_behind size bytes (Ok (Some front)) ≡ Faulty Truncated
+piece_few front size bytes short = grind (arith, nat_tests, short)
+
+-- a whole frame behind its line
+pub whole_behind : (form : Form) (front : ℕ) (bytes mid rest frame : List ℕ) → front_cut form bytes ≡ Ok (Some front) → IsBehind front bytes mid → mid ≡ frame ++ rest
+    → TakesFrame form frame bytes rest
+whole_behind form front bytes mid rest frame is behind same =
+    let size : length mid ≡ length frame + length rest = ap length same ∙ length-append frame rest in
+    let fits : front + length frame ≤ length bytes = omega (arith, behind.within, ap length behind.left, length-drop front bytes, size) in
+    let taken : take (length frame) (drop front bytes) ≡ frame = ap (take (length frame)) (sym behind.left ∙ same) ∙ take_at frame rest (length frame) refl in
+    let left : rest ≡ drop (length frame) mid = sym (ap (drop (length frame)) same ∙ drop_at frame rest (length frame) refl) in
+    let here : IsBehind (length frame) mid rest = record { within = omega (arith, size); left = left } in (
+      front + length frame,
+      piece_front form (length frame) bytes (Ok (Some front)) is ∙ piece_enough front (length frame) bytes fits
+      ∙ ap (λ (b : List ℕ). Whole (record { bytes = b; size = front + length frame })) taken,
+      behind_then front (length frame) bytes mid rest behind here,
+    )
+
+-- the input ends in a frame behind its line
+pub short_behind : (form : Form) (front size : ℕ) (bytes mid : List ℕ) → front_cut form bytes ≡ Ok (Some front) → IsBehind front bytes mid → length mid < size
+    → piece_cut form size bytes ≡ Faulty Truncated
+short_behind form front size bytes mid is behind short =
+    piece_front form size bytes (Ok (Some front)) is
+    ∙ piece_few front size bytes (omega (arith, behind.within, ap length behind.left, length-drop front bytes, short))
+
+short_if : (n front size : ℕ) (bytes : List ℕ) → n < front + size → (b : Bool)
+    → IsShort n (if b then Whole (record { bytes = take size (drop front bytes); size = front + size }) else Faulty Truncated)
+short_if n front size bytes short true = short
+short_if n front size bytes short false = tt
+
+short_piece : (form : Form) (n front size : ℕ) (bytes : List ℕ) → front_cut form bytes ≡ Ok (Some front) → n < front + size → IsShort n (piece_cut form size bytes)
+short_piece form n front size bytes is short =
+    subst (IsShort n) (sym (piece_front form size bytes (Ok (Some front)) is)) (short_if n front size bytes short (nat_le (front + size) (length bytes)))
+
+-- a part of a frame behind its line
+pub part_behind : (form : Form) (front n : ℕ) (bytes mid rest part : List ℕ) (size : ℕ) → front_cut form bytes ≡ Ok (Some front) → IsBehind front bytes mid → mid ≡ part ++ rest
+    → length part ≡ n → n < size → TakesPiece form size bytes rest
+part_behind form front n bytes mid rest part size is behind same long short =
+    let total : length mid ≡ length part + length rest = ap length same ∙ length-append part rest in
+    let left : rest ≡ drop n mid = sym (ap (drop n) same ∙ drop_at part rest n long) in
+    let here : IsBehind n mid rest = record { within = omega (arith, total, long); left = left } in (
+      front + n,
+      behind_then front n bytes mid rest behind here,
+      short_piece form (front + n) front size bytes is (omega (arith, short)),
+    )
+
+-- ---- raw frames
+
+pub raw_front : (bytes : List ℕ) → 0 < length bytes → front_cut Raw bytes ≡ Ok (Some 0)
+raw_front [] some = absurd (omega arith)
+raw_front (byte ∷ bytes) some = refl
+
+all_left : (bytes : List ℕ) → IsBehind 0 bytes bytes
+all_left bytes = record { within = omega arith; left = refl }
+
+pub raw_whole : (frame bytes rest : List ℕ) → 0 < length frame → bytes ≡ frame ++ rest → TakesFrame Raw frame bytes rest
+raw_whole frame bytes rest some same =
+    let more : 0 < length bytes = omega (arith, ap length same, length-append frame rest) in
+    whole_behind Raw 0 bytes bytes rest frame (raw_front bytes more) (all_left bytes) same
+
+pub raw_short : (bytes : List ℕ) (size : ℕ) → 0 < length bytes → length bytes < size → piece_cut Raw size bytes ≡ Faulty Truncated
+raw_short bytes size some short = short_behind Raw 0 size bytes bytes (raw_front bytes some) (all_left bytes) short
+
+raw_part_at : (part bytes rest : List ℕ) (n size : ℕ) → bytes ≡ part ++ rest → length part ≡ n → n < size → TakesPiece Raw size bytes rest
+unfolding piece_cut
+raw_part_at part [] rest n size same long short =
+    let none : n ≡ 0 = omega (arith, ap length same, length-append part rest, long) in
+    let empty : rest ≡ [] = sym (drop_at part rest (length part) refl) ∙ ap (drop (length part)) (sym same) ∙ (let e : length part ≡ 0 = omega (arith, long, none) in rw e refl) in
+    (0, record { within = omega arith; left = empty }, tt)
+raw_part_at part (byte ∷ bytes) rest n size same long short = part_behind Raw 0 n (byte ∷ bytes) (byte ∷ bytes) rest part size refl (all_left (byte ∷ bytes)) same long short
+
+pub raw_part : (part bytes rest : List ℕ) (n size : ℕ) → bytes ≡ part ++ rest → length part ≡ n → n < size → TakesPiece Raw size bytes rest
+raw_part part bytes rest n size same long short = raw_part_at part bytes rest n size same long short
+
+-- ---- frames of a stream
+
+-- a frame line was taken
+pub line_front : (bytes mid : List ℕ) (size : ℕ) → frame_line_cut bytes ≡ Ok (Some size) → bytes ≡ take size bytes ++ mid → IsBehind size bytes mid
+line_front bytes mid size is same =
+    let fits = frame_line_cut-size bytes size is in
+    record { within = fits; left = sym (ap (drop size) same ∙ drop_at (take size bytes) mid size (length-take-le size bytes fits)) }
+
+pub line_fault_piece : (size : ℕ) (bytes : List ℕ) (fault : StreamFault) → frame_line_cut bytes ≡ Err fault → piece_cut Y4m size bytes ≡ Faulty fault
+line_fault_piece size bytes fault is = piece_front Y4m size bytes (Err fault) is
+
+open_piece : (front rest : List ℕ) (size : ℕ) (cut : Result (Option ℕ) StreamFault) → list_any is_newline front ≡ false → frame_line_cut (front ++ rest) ≡ cut
+    → IsShort (length front) (piece_behind size (front ++ rest) cut)
+open_piece front rest size (Err fault) none is = tt
+open_piece front rest size (Ok None) none is = tt
+open_piece front rest size (Ok (Some line)) none is =
+    short_if (length front) line size (front ++ rest) (let below = frame_line_cut-open front rest line none is in omega (arith, below)) (nat_le (line + size) (length (front ++ rest)))
+
+-- a part of a frame line was taken
+pub open_part : (front rest : List ℕ) (size : ℕ) → list_any is_newline front ≡ false → TakesPiece Y4m size (front ++ rest) rest
+open_part front rest size none = (
+  length front,
+  record { within = omega (arith, length-append front rest); left = sym (drop_at front rest (length front) refl) },
+  subst (IsShort (length front)) (sym (piece_front Y4m size (front ++ rest) (frame_line_cut (front ++ rest)) refl)) (open_piece front rest size (frame_line_cut (front ++ rest)) none refl),
+)

@@ -1,0 +1,83 @@
+-- The frames of an input one after the other: what reading one takes, and what a run over all of them promises.
+use Rattle.std.specs.Prelude.{◌≡◌, ◌<◌, ◌≤◌, ℕ, ◌++◌, List, [], length, take, drop, map, Option, None, Some, IfSome, if◌then◌else◌, Bool}
+use Rattle.std.specs.List.{concat}
+use Rattle.pix_io.specs.Shown.{Shown}
+use Rattle.pix_io.specs.Faults.{Rose}
+use Rattle.pix_io.specs.Streams.{Writes, HasEnded}
+use Rattle.pix_meaning.specs.Target.{target_frame}
+use Rattle.sws_words.specs.declared.task.Form.{Form}
+use Rattle.sws_run.specs.declared.ended.Ended.{Ended}
+use Rattle.sws_run.specs.declared.frame.Next.{Next}
+use Rattle.sws_run.specs.declared.frame.Next.TheVariants as next
+use Rattle.sws_run.specs.declared.run.Converter.{Converter}
+use Rattle.sws_run.specs.Cut.{Frame, Frames, Piece, Nothing, Whole, Faulty, End, Clean, TooMany, piece_cut, frames_cut, most_frames, whole_within}
+use Rattle.sws_run.specs.Ending.{IsDecided, CanEnd, IfDone, IfReadFault, IfWriteFault}
+use Rattle.sws_run.specs.Output.{ending_at, front_in}
+
+-- a fact of the bytes left before and after, where they are told
+abbrev pub IfTold : Option (List ℕ) → Option (List ℕ) → (List ℕ → List ℕ → Type 0) → Type 0
+IfTold None left P = Unit {0}
+IfTold (Some bytes) None P = ⊥
+IfTold (Some bytes) (Some rest) P = P bytes rest
+
+-- n bytes were taken from the front
+pub record IsBehind (n : ℕ) (bytes rest : List ℕ) : Type 0 where
+  pub within : n ≤ length bytes
+  pub left : rest ≡ drop n bytes
+
+-- ---- one frame
+
+-- the bytes begin with this frame, and its text was taken
+abbrev pub TakesFrame : Form → List ℕ → List ℕ → List ℕ → Type 0
+TakesFrame form frame bytes rest =
+    (size : ℕ) × (piece_cut form (length frame) bytes ≡ Whole (record { bytes = frame; size = size })) × IsBehind size bytes rest
+
+-- n bytes are fewer than the frame's text has that stands there
+abbrev pub IsShort : ℕ → Piece → Type 0
+IsShort n Nothing = Unit {0}
+IsShort n (Whole frame) = n < frame.size
+IsShort n (Faulty fault) = Unit {0}
+
+-- fewer bytes were taken than the frame's text has that stands there
+abbrev pub TakesPiece : Form → ℕ → List ℕ → List ℕ → Type 0
+TakesPiece form size bytes rest = (n : ℕ) × IsBehind n bytes rest × IsShort n (piece_cut form size bytes)
+
+-- what stood where a frame may begin: a frame, which was taken, or the end of the input
+abbrev pub ReadsNext : Form → Shown → Shown → List ℕ → Next → Type 0
+ReadsNext form old new frame next.Frame = IfTold old.bytes new.bytes (TakesFrame form frame)
+ReadsNext form old new frame next.End = IfSome old.bytes (λ bytes. bytes ≡ []) × HasEnded new
+
+-- whether the bytes are at their end
+abbrev pub end_if : Bool → End
+end_if ended = if ended then Clean else TooMany
+
+-- ---- all frames
+
+-- what is put out for a frame
+unfoldable pub text_by : Converter → List ℕ → List ℕ
+text_by converter frame = front_in converter.target_form ++ target_frame converter.plan.pair converter.width converter.height frame
+
+abbrev pub frames_by : Converter → ℕ → List ℕ → Frames
+frames_by converter size bytes = frames_cut converter.source_form size most_frames bytes
+
+abbrev pub texts_by : Converter → ℕ → List ℕ → List (List ℕ)
+texts_by converter size bytes = map (λ frame. text_by converter frame.bytes) (frames_by converter size bytes).frames
+
+-- an ending that nothing outside made is that of the frames' end, and all their texts were written
+pub record EndsFrames (converter : Converter) (size : ℕ) (source source' sink sink' : Shown) (ended : Ended) : Type 0 where
+  pub known : IsDecided ended → CanEnd converter.source_form ended
+  pub ending : IsDecided ended → IfSome source.bytes (λ bytes. let cut = frames_by converter size bytes in ended ≡ ending_at cut.end (length cut.frames))
+  pub output : IsDecided ended → IfSome source.bytes (λ bytes. Writes sink sink' (concat (texts_by converter size bytes)))
+  pub read : IfDone ended (HasEnded source')
+
+-- at a read fault its frames are those that lie wholly in the bytes taken, and their texts were written
+pub record StopsReading (converter : Converter) (size : ℕ) (source source' sink sink' : Shown) (ended : Ended) : Type 0 where
+  pub cause : IfReadFault ended (λ k. Rose source.faults source'.faults)
+  pub place : IfReadFault ended (λ k. IfTold source.bytes source'.bytes (λ bytes rest. (n : ℕ) × IsBehind n bytes rest
+      × (k ≡ whole_within (λ frame. frame.size) n (frames_by converter size bytes).frames) × Writes sink sink' (concat (take k (texts_by converter size bytes)))))
+
+-- at a write fault a front of the texts was written, shorter than they are, and its frames are those that lie wholly in it
+pub record StopsWriting (converter : Converter) (size : ℕ) (source source' sink sink' : Shown) (ended : Ended) : Type 0 where
+  pub cause : IfWriteFault ended (λ k. Rose sink.faults sink'.faults)
+  pub place : IfWriteFault ended (λ k. IfSome source.bytes (λ bytes. (n : ℕ) × (n < length (concat (texts_by converter size bytes)))
+      × Writes sink sink' (take n (concat (texts_by converter size bytes))) × (k ≡ whole_within length n (texts_by converter size bytes))))
