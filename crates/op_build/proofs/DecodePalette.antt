@@ -10,7 +10,7 @@ use Rattle.pix_desc.specs.Component.{component_of, is_narrow, bytes_read, first_
 use Rattle.pix_desc.specs.Frame.{row_start, frame_component}
 use Rattle.pix_desc.specs.Layouts.{IsValid, is_count, is_elements, is_word, is_index, some_component, some_pair, differ_in_step}
 use Rattle.pix_desc.proofs.ComponentLists.{some_component-false}
-use Rattle.pix_desc.proofs.FramePlaces.{byte_below}
+use Rattle.pix_desc.proofs.BitPositions.{byte_below}
 use Rattle.pix_desc.proofs.Valid.{has_no_fault, laid_out}
 use Rattle.pix_meaning.specs.Pairs.{has_channel, component_at}
 use Rattle.pix_meaning.specs.Values.{entry_component, source_component}

@@ -6,7 +6,7 @@ use Rattle.pix_desc.specs.declared.desc.Desc.{Desc}
 use Rattle.pix_desc.specs.Component.{component_of, first_byte, count_of}
 use Rattle.pix_desc.specs.Frame.{frame_component}
 use Rattle.pix_desc.specs.Layouts.{IsValid, is_elements, word_shift}
-use Rattle.pix_desc.proofs.FramePlaces.{byte_below}
+use Rattle.pix_desc.proofs.BitPositions.{byte_below}
 use Rattle.pix_desc.proofs.Valid.{laid_out}
 use Rattle.pix_meaning.specs.Pairs.{component_at}
 use Rattle.op_list.specs.declared.op.Op.{Op}

@@ -12,7 +12,7 @@ use Rattle.pix_desc.specs.Frame.{plane_step, row_start, frame_of, FitDepths, IsF
 use Rattle.pix_desc.specs.Layouts.{IsValid, IsLaidOut, is_elements}
 use Rattle.pix_desc.proofs.Bits.{bit_at_shifted, bit_at_shifted_cases}
 use Rattle.pix_desc.proofs.FrameExists.{frame_says}
-use Rattle.pix_desc.proofs.FramePlaces.{byte_below}
+use Rattle.pix_desc.proofs.BitPositions.{byte_below}
 use Rattle.pix_desc.proofs.Valid.{laid_out}
 use Rattle.pix_meaning.specs.Pairs.{channel_of}
 use Rattle.op_list.specs.declared.op.Op.TheVariants.{LeftShift, Pack}

@@ -13,7 +13,7 @@ use Rattle.pix_desc.specs.Component.{component_of, bit_of}
 use Rattle.pix_desc.specs.Frame.{plane_step, row_start, reads_pixel_bit, IsFrameOf}
 use Rattle.pix_desc.specs.Layouts.{IsLaidOut, is_elements, word_shift}
 use Rattle.pix_desc.proofs.Bits.{bit_at_field}
-use Rattle.pix_desc.proofs.FramePlaces.{byte_below, same_place}
+use Rattle.pix_desc.proofs.BitPositions.{byte_below, same_position}
 use Rattle.pix_desc.proofs.FrameReads.{read_by}
 use Rattle.pix_desc.proofs.Valid.{laid_out}
 use Rattle.op_list.specs.declared.op.Op.TheVariants.{LeftShift, Pack}
@@ -153,7 +153,7 @@ module _ (desc : Desc) (place : PixelPosition) (value : ℕ → ℕ → ℕ → 
       let c = component_of desc j in
       let at : bit_in_order desc.be size (word_shift desc c + b) ≡ k =
       ap (λ s. bit_in_order desc.be s (word_shift desc c + b)) (sym (is.step j by.listed))
-      ∙ sym (word_place desc laid j by.listed b by.inside) ∙ same_place desc c b k (laid.first j by.listed) by.at in
+      ∙ sym (word_place desc laid j by.listed b by.inside) ∙ same_position desc c b k (laid.first j by.listed) by.at in
       let ends : word_shift desc c + b < 8 * size = omega (arith, word_end desc laid j by.listed, is.step j by.listed, by.inside) in
       let same : word_shift desc c + b ≡ m = bit_in_order-apart desc.be size (word_shift desc c + b) m ends bound at in
       let places = has_places desc gives.valid in

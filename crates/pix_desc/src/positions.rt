@@ -1,7 +1,7 @@
 // Where a component's bits lie in its pixel.
 ghost use Rattle.std.specs.Prelude.{◌≡◌, ◌-◌, ◌/◌, ◌≤◌, ◌&&◌, not, nat_eq, if◌then◌else◌};
 ghost use Rattle.std.specs.List.{list_any};
-ghost use Rattle.pix_desc.specs.Component.{components, is_narrow, bytes_read, count_of, first_byte, bit_place, reads_bit};
+ghost use Rattle.pix_desc.specs.Component.{components, is_narrow, bytes_read, count_of, first_byte, bit_position, reads_bit};
 ghost use Rattle.pix_desc.specs.Layouts.{share_bit, overlap};
 
 use crate::{Comp, Desc};
@@ -48,13 +48,14 @@ pub fn first_byte(desc: &Desc, comp: &Comp) -> i16
 }
 
 /// The first byte that the component is read from, and 0 where it lies before the pixel.
-pub fn first_place(desc: &Desc, comp: &Comp) -> u16
+pub fn first_byte_index(desc: &Desc, comp: &Comp) -> u16
     ensures { result ≡ count_of (first_byte desc.now comp.now) }
 {
     first_byte(desc, comp).max(0) as u16
 }
 
-/// The byte of a component's number that has a bit of it, in the order in which they stand in the pixel.
+/// The byte of a component's number that has a bit of it, in the order in which they stand in the
+/// pixel.
 fn byte_with(desc: &Desc, comp: &Comp, bit: u16) -> u16
     ensures { result ≡ (if desc.now.be && not (is_narrow comp.now) then 1 - bit / 8 else bit / 8) }
 {
@@ -66,9 +67,10 @@ fn byte_with(desc: &Desc, comp: &Comp, bit: u16) -> u16
     }
 }
 
-/// The bit of the pixel that is bit `i` of the component's value, counted from the lowest bit of the pixel's first byte.
-pub fn bit_place(desc: &Desc, comp: &Comp, i: u8) -> i32
-    ensures { result ≡ bit_place desc.now comp.now i }
+/// The bit of the pixel that is bit `i` of the component's value, counted from the lowest bit of
+/// the pixel's first byte.
+pub fn bit_position(desc: &Desc, comp: &Comp, i: u8) -> i32
+    ensures { result ≡ bit_position desc.now comp.now i }
 {
     let bit = u16::from(comp.shift) + u16::from(i);
     let byte = i32::from(first_byte(desc, comp)) + i32::from(byte_with(desc, comp, bit));
@@ -76,17 +78,17 @@ pub fn bit_place(desc: &Desc, comp: &Comp, i: u8) -> i32
 }
 
 /// Whether the component reads a bit of its pixel.
-pub fn reads_bit(desc: &Desc, comp: &Comp, place: i32) -> bool
-    ensures { result ≡ reads_bit desc.now comp.now place }
+pub fn reads_bit(desc: &Desc, comp: &Comp, position: i32) -> bool
+    ensures { result ≡ reads_bit desc.now comp.now position }
 {
-    (0..comp.depth).any(|i| bit_place(desc, comp, i) == place)
+    (0..comp.depth).any(|i| bit_position(desc, comp, i) == position)
 }
 
-/// Whether two components read a bit at one place.
+/// Whether two components read a bit at the same position.
 fn share_bit(desc: &Desc, a: &Comp, b: &Comp) -> bool
     ensures { result ≡ share_bit desc.now a.now b.now }
 {
-    (0..a.depth).any(|i| reads_bit(desc, b, bit_place(desc, a, i)))
+    (0..a.depth).any(|i| reads_bit(desc, b, bit_position(desc, a, i)))
 }
 
 /// Whether two components of one plane read a common bit of the pixel.

@@ -1,7 +1,7 @@
 use Rattle.std.proofs.Common.{◌∙◌, ◌<◌, length, arith}
 use Rattle.pix_desc.specs.Component.{no_component}
 use Rattle.pix_desc.proofs.Planes.{length-one_a_plane}
-use Rattle.pix_desc.proofs.word.has_one_plane.Goals as goal
+use Rattle.pix_desc.proofs.word_layout.has_one_plane.Goals as goal
 
 pub returns-in-len1-up : goal.returns-in-len1-up
 returns-in-len1-up c =

@@ -4,7 +4,7 @@ ghost use Rattle.std.specs.List.{list_any, list_all};
 ghost use Rattle.pix_desc.specs.Component.{components};
 ghost use Rattle.pix_desc.specs.Layouts.{some_two, differ_in_shape, is_aligned, element_count, is_elements};
 
-use crate::place::{bytes_read, components, first_place, is_used};
+use crate::positions::{bytes_read, components, first_byte_index, is_used};
 use crate::{Comp, Desc};
 
 /// Whether two components differ in shift or in depth.
@@ -33,7 +33,7 @@ fn is_aligned(desc: &Desc, comp: &Comp) -> bool
     ensures { result ≡ is_aligned desc.now comp.now }
 {
     let size = bytes_read(comp);
-    first_place(desc, comp) % u16::from(size) == 0 && comp.step % size == 0
+    first_byte_index(desc, comp) % u16::from(size) == 0 && comp.step % size == 0
 }
 
 /// Whether all components do.
@@ -58,7 +58,8 @@ fn element_count(comps: &[Comp]) -> u16
     count
 }
 
-/// Whether a pixel is up to four numbers of equal size that hold one component each, all at the same bits.
+/// Whether a pixel is up to four numbers of equal size that hold one component each, all at the
+/// same bits.
 pub fn is_elements(desc: &Desc) -> bool
     requires { desc.now.count ≤ 4 }
     ensures { result ≡ is_elements desc.now }

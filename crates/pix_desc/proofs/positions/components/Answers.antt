@@ -1,6 +1,6 @@
 use Rattle.std.proofs.Common.{◌≡◌, ◌∙◌, ap, take, length, rules}
 use Rattle.pix_desc.proofs.ComponentLists.{take-comps}
-use Rattle.pix_desc.proofs.place.components.Goals as goal
+use Rattle.pix_desc.proofs.positions.components.Goals as goal
 
 pub returns : goal.returns
 returns c =

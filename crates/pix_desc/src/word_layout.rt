@@ -4,7 +4,7 @@ ghost use Rattle.std.specs.List.{list_all};
 ghost use Rattle.pix_desc.specs.Component.{components};
 ghost use Rattle.pix_desc.specs.Layouts.{one_a_plane, some_component, word_shift, has_word_bit, is_spare, begins_spare, spare_runs, has_few_fields, is_word};
 
-use crate::place::{bytes_read, components, first_place};
+use crate::positions::{bytes_read, components, first_byte_index};
 use crate::{Comp, Desc};
 
 /// Whether all components lie in the plane.
@@ -28,7 +28,7 @@ fn has_one_plane(comps: &[Comp]) -> bool
 pub fn word_shift(desc: &Desc, comp: &Comp) -> u16
     ensures { result ≡ word_shift desc.now comp.now }
 {
-    let first = first_place(desc, comp);
+    let first = first_byte_index(desc, comp);
     let bytes_below = if desc.be {
         u16::from(comp.step)
             .saturating_sub(first)

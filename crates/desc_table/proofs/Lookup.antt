@@ -17,7 +17,7 @@ use Rattle.std.proofs.lemmas.Slice.Eq.{bytes_eq-Decides}
 use Rattle.desc_table.specs.declared.fault.FormatFault.{FormatFault}
 use Rattle.desc_table.specs.declared.fault.FormatFault.TheVariants.{Unknown}
 use Rattle.desc_table.specs.Format.{Format, formats, format_count, format_at, no_format}
-use Rattle.desc_table.specs.Refused.{Refusal, refused, found, row_or_fault}
+use Rattle.desc_table.specs.Refused.{Refusal, refused, lookup, row_or_fault}
 use Rattle.desc_table.specs.Names.{rises, known_names}
 use Rattle.desc_table.proofs.Rows.{length-formats, agree_at}
 use Rattle.desc_table.proofs.Sorted.{IsSortedBy-rises, absent_from_search}
@@ -28,9 +28,9 @@ row_or_fault-Ok None (Some refusal) row is = cc
 row_or_fault-Ok None None row is = cc
 
 -- a name that finds a row is the row's name
-pub found-Ok : (name : List ℕ) (row : ℕ) → found name ≡ Ok row → (row < format_count) × ((format_at row).name ≡ name)
-unfolding found format_at
-found-Ok name row is =
+pub lookup-Ok : (name : List ℕ) (row : ℕ) → lookup name ≡ Ok row → (row < format_count) × ((format_at row).name ≡ name)
+unfolding lookup format_at
+lookup-Ok name row is =
     let facts = position-Some (λ (format : Format). bytes_eq format.name name) formats row no_format (row_or_fault-Ok _ _ row is) in
     (omega (arith, facts.0, length-formats), (bytes_eq-Decides (format_at row).name name).0 facts.1)
 
@@ -48,12 +48,12 @@ module _ {X : Type 0} (passes : List ℕ → Bool) (key : X → List ℕ) (name 
   find-None (x ∷ xs) pass = rw (differs x (first_so _ _ pass)) (find-None xs (second_so _ _ pass))
 
 -- a name that no entry has is not known
-found-absent : {X : Type 0} (key : X → List ℕ) (entries : List X) (name : List ℕ)
+lookup-absent : {X : Type 0} (key : X → List ℕ) (entries : List X) (name : List ℕ)
     → list_all (λ known. list_any (λ entry. bytes_eq (key entry) known) entries) known_names ≡ true
     → list_any (λ entry. bytes_eq (key entry) name) entries ≡ false
-    → found name ≡ Err Unknown
-unfolding found known_names
-found-absent key entries name complete absent =
+    → lookup name ≡ Err Unknown
+unfolding lookup known_names
+lookup-absent key entries name complete absent =
     let passes = λ (known : List ℕ). list_any (λ entry. bytes_eq (key entry) known) entries in
     let both = sym (list_all-append passes (map (λ (format : Format). format.name) formats) (map (λ (refusal : Refusal). refusal.name) refused)) ∙ complete in
     let ours = sym (list_all-map passes (λ (format : Format). format.name) formats) ∙ first_so _ _ both in
@@ -61,21 +61,21 @@ found-absent key entries name complete absent =
     rw (position-None passes (λ (format : Format). format.name) name absent formats ours, find-None passes (λ (refusal : Refusal). refusal.name) name absent refused others, length-formats)
 
 -- what a search finds at a place is what the name there finds, where the table's answers are those of its names
-pub found-at : {X : Type 0} (key : X → List ℕ) (answer : X → Result ℕ FormatFault) (entries : List X) (name : List ℕ) (place : ℕ) (d : X)
-    → map (λ entry. found (key entry)) entries ≡ map answer entries
+pub lookup-at : {X : Type 0} (key : X → List ℕ) (answer : X → Result ℕ FormatFault) (entries : List X) (name : List ℕ) (place : ℕ) (d : X)
+    → map (λ entry. lookup (key entry)) entries ≡ map answer entries
     → place < length entries
     → slice_cmp nat_cmp (key (get_or entries place d)) name ≡ Equal
-    → answer (get_or entries place d) ≡ found name
-found-at key answer entries name place d answers below is =
+    → answer (get_or entries place d) ≡ lookup name
+lookup-at key answer entries name place d answers below is =
     let same = (bytes_eq-Decides (key (get_or entries place d)) name).0 (sym (is_eq-slice_cmp (key (get_or entries place d)) name) ∙ ap is_eq is) in
-    sym (agree_at (λ entry. found (key entry)) answer entries place d answers below) ∙ ap found same
+    sym (agree_at (λ entry. lookup (key entry)) answer entries place d answers below) ∙ ap lookup same
 
 -- where a search of a table with every known name finds none, the name is not known
-pub found-nowhere : {X : Type 0} (key : X → List ℕ) (entries : List X) (name : List ℕ) (place : ℕ)
+pub lookup-nowhere : {X : Type 0} (key : X → List ℕ) (entries : List X) (name : List ℕ) (place : ℕ)
     → rises (map key entries) ≡ true
     → list_all (λ known. list_any (λ entry. bytes_eq (key entry) known) entries) known_names ≡ true
     → IsBinarySearchResult (λ entry. slice_cmp nat_cmp (key entry) name) entries (Err place)
-    → Err Unknown ≡ found name
-found-nowhere key entries name place ordered complete searched =
+    → Err Unknown ≡ lookup name
+lookup-nowhere key entries name place ordered complete searched =
     let parts = searched (searchable_from_sorted nat_list_cmp_total key entries name (IsSortedBy-rises key entries ordered)) in
-    sym (found-absent key entries name complete (absent_from_search key entries name place parts))
+    sym (lookup-absent key entries name complete (absent_from_search key entries name place parts))
