@@ -10,7 +10,7 @@ use Rattle.pix_desc.specs.Component.{component_of, is_narrow, bytes_read, start_
 use Rattle.pix_desc.specs.Frame.{plane_step, row_length, plane_length, plane_start, row_start, frame_length, frame_component}
 use Rattle.pix_desc.specs.Layouts.{IsValid, IsLaidOut}
 use Rattle.pix_desc.proofs.Valid.{laid_out}
-use Rattle.pix_desc.proofs.FramePlaces.{byte_below, bit_of_is}
+use Rattle.pix_desc.proofs.BitPositions.{byte_below, bit_of_is}
 use Rattle.pix_desc.proofs.FramePlanes.{IsByteOf, find_byte}
 use Rattle.pix_desc.proofs.FrameExists.{frame_length_is}
 use Rattle.pix_meaning.specs.Pairs.{component_count}
@@ -137,6 +137,6 @@ module _ (desc : Desc) (width height first rows : ℕ) (frame : List ℕ) (size 
           let t = x * plane_step desc p + o in
           let below : t < row_length desc width p = omega (arith, mul-add-lt x (plane_step desc p) o width is.column is.byte) in
           let same : get_or (slice_of desc width height frame first rows) k 0 ≡ get_or frame (row_start desc width height p (first + y) + t) 0 =
-          ap (λ i. get_or (slice_of desc width height frame first rows) i 0) {x = k} {y = row_start desc width rows p y + t} (omega (arith, is.place))
+          ap (λ i. get_or (slice_of desc width height frame first rows) i 0) {x = k} {y = row_start desc width rows p y + t} (omega (arith, is.index))
           ∙ byte_of_slice p y t is.plane is.row below in
           subst (λ b. b < 256) (sym same) (byte_below frame (row_start desc width height p (first + y) + t) bytes)
