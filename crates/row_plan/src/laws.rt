@@ -4,7 +4,7 @@ ghost use Rattle.colour_matrix.specs.declared.class.Range.{Range};
 ghost use Rattle.colour_matrix.specs.declared.matrix.Matrix.{Matrix};
 ghost use Rattle.desc_table.specs.Format.{format_count};
 ghost use Rattle.pix_meaning.specs.declared.pair.Pair.{Pair};
-ghost use Rattle.row_plan.specs.Evaluated.{IsNamed, IsEvaluated, side_at};
+ghost use Rattle.row_plan.specs.Evaluated.{IsNamed, IsEvaluated, TablePairsHavePlans, side_at};
 ghost use Rattle.row_plan.specs.PackedRgb.{ArePackedFormats, CopiesPacked};
 ghost use Rattle.row_plan.specs.Slices.{SlicesAreFrames, SlicesMakeFrame, TargetOfSlice, TargetsMakeFrame};
 
@@ -14,6 +14,11 @@ pub fn every_pair_is_evaluated()
     ensures { (from to dither : ℕ) (from_matrix to_matrix : Matrix) (from_range to_range : Range)
         → from < format_count → to < format_count → IsNamed from_matrix → IsNamed to_matrix → dither ≤ 4
         → IsEvaluated (record { from = side_at from from_matrix from_range; to = side_at to to_matrix to_range; dither = dither }) }
+{}
+
+/// Every pair of two sides of the table with named matrices has a plan, where its target is no palette format.
+pub fn table_pairs_have_plans()
+    ensures { TablePairsHavePlans }
 {}
 
 /// Ten formats of the table are packed RGB formats of whole bytes.
