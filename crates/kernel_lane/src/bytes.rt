@@ -1,5 +1,6 @@
 // The byte order of numbers.
-ghost use Rattle.std.specs.Prelude.{◌≡◌, ℕ, ◌<◌, length, slice_index, ⊤};
+ghost use Rattle.std.specs.Prelude.{◌≡◌, ⊤};
+ghost use Rattle.kernel_lane.specs.Rows.{ForPairs};
 ghost use Rattle.kernel_lane.specs.Rules.{IsLaneCount, swapped_16, swapped_32};
 
 use crate::lanes::change;
@@ -33,7 +34,7 @@ impl Change<u32> for ByteSwap {
 /// Exchanges the two bytes of each number.
 pub fn swap_u16<const N: usize>(v: &mut [u16])
     requires lanes { IsLaneCount N }
-    ensures { (i : ℕ) → i < length v.old → slice_index v.new i ≡ swapped_16 (slice_index v.old i) }
+    ensures { ForPairs (λ x y. y ≡ swapped_16 x) v.old v.new }
 {
     change::<u16, ByteSwap, N>(ByteSwap, v);
 }
@@ -41,7 +42,7 @@ pub fn swap_u16<const N: usize>(v: &mut [u16])
 /// Reverses the four bytes of each number.
 pub fn swap_u32<const N: usize>(v: &mut [u32])
     requires lanes { IsLaneCount N }
-    ensures { (i : ℕ) → i < length v.old → slice_index v.new i ≡ swapped_32 (slice_index v.old i) }
+    ensures { ForPairs (λ x y. y ≡ swapped_32 x) v.old v.new }
 {
     change::<u32, ByteSwap, N>(ByteSwap, v);
 }

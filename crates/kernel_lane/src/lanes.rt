@@ -1,5 +1,6 @@
 // The loops: N elements at a time, and then the rest, one by one.
 ghost use Rattle.std.specs.Prelude.{◌≡◌, ℕ, ◌+◌, ◌<◌, ◌≤◌, ◌⊎◌, length, slice_index_or};
+ghost use Rattle.kernel_lane.specs.Rows.{ForEach, ForPairs, ForTriples};
 ghost use Rattle.kernel_lane.specs.Rules.{IsLaneCount};
 
 use crate::rule::{Change, Merge};
@@ -7,9 +8,12 @@ use crate::rule::{Change, Merge};
 // Changes the N elements from `at` on.
 fn change_lanes<T: Copy, R: Change<T>, const N: usize>(rule: R, v: &mut [T], at: usize)
     requires room { at + N ≤ length v.old }
-    requires takes { (i : ℕ) (d : T) → at ≤ i → i < at + N → R.takes rule (slice_index_or v.old i d) }
-    ensures set { (i : ℕ) (d : T) → at ≤ i → i < at + N → R.makes rule (slice_index_or v.old i d) (slice_index_or v.new i d) }
-    ensures kept { (i : ℕ) (d : T) → (i < at) ⊎ (at + N ≤ i) → slice_index_or v.new i d ≡ slice_index_or v.old i d }
+    requires takes { (i : ℕ) (x : T)
+        → at ≤ i → i < at + N → R.takes rule (slice_index_or v.old i x) }
+    ensures set { (i : ℕ) (x : T)
+        → at ≤ i → i < at + N → R.makes rule (slice_index_or v.old i x) (slice_index_or v.new i x) }
+    ensures kept { (i : ℕ) (x : T)
+        → (i < at) ⊎ (at + N ≤ i) → slice_index_or v.new i x ≡ slice_index_or v.old i x }
 {
     for k in 0..N {
         v[at + k] = rule.changed(v[at + k]);
@@ -19,8 +23,8 @@ fn change_lanes<T: Copy, R: Change<T>, const N: usize>(rule: R, v: &mut [T], at:
 // Changes each element.
 pub fn change<T: Copy, R: Change<T>, const N: usize>(rule: R, v: &mut [T])
     requires lanes { IsLaneCount N }
-    requires takes { (i : ℕ) (d : T) → i < length v.old → R.takes rule (slice_index_or v.old i d) }
-    ensures { (i : ℕ) (d : T) → i < length v.old → R.makes rule (slice_index_or v.old i d) (slice_index_or v.new i d) }
+    requires takes { ForEach (R.takes rule) v.old }
+    ensures { ForPairs (R.makes rule) v.old v.new }
 {
     let whole = v.len() / N;
     for block in 0..whole {
@@ -36,7 +40,8 @@ pub fn change<T: Copy, R: Change<T>, const N: usize>(rule: R, v: &mut [T])
 fn lanes_at<T: Copy, const N: usize>(from: &[T], at: usize) -> [T; N]
     requires { at + N ≤ length from.now }
     ensures count { length result ≡ N }
-    ensures same { (k : ℕ) (d : T) → k < N → slice_index_or result k d ≡ slice_index_or from.now (at + k) d }
+    ensures same { (k : ℕ) (x : T)
+        → k < N → slice_index_or result k x ≡ slice_index_or from.now (at + k) x }
 {
     <[T; N]>::try_from(&from[at..at + N]).unwrap()
 }
@@ -49,9 +54,13 @@ fn merge_lanes<A: Copy, B: Copy, R: Merge<A, B>, const N: usize>(
     at: usize,
 )
     requires room { (at + N ≤ length to.old) × (at + N ≤ length from.now) }
-    requires takes { (i : ℕ) (d : B) (e : A) → at ≤ i → i < at + N → R.takes rule (slice_index_or to.old i d) (slice_index_or from.now i e) }
-    ensures set { (i : ℕ) (d : B) (e : A) → at ≤ i → i < at + N → R.makes rule (slice_index_or to.old i d) (slice_index_or from.now i e) (slice_index_or to.new i d) }
-    ensures kept { (i : ℕ) (d : B) → (i < at) ⊎ (at + N ≤ i) → slice_index_or to.new i d ≡ slice_index_or to.old i d }
+    requires takes { (i : ℕ) (x : B) (y : A) → at ≤ i → i < at + N
+        → R.takes rule (slice_index_or to.old i x) (slice_index_or from.now i y) }
+    ensures set { (i : ℕ) (x : B) (y : A) (z : B) → at ≤ i → i < at + N
+        → R.makes rule (slice_index_or to.old i x)
+        (slice_index_or from.now i y) (slice_index_or to.new i z) }
+    ensures kept { (i : ℕ) (x : B)
+        → (i < at) ⊎ (at + N ≤ i) → slice_index_or to.new i x ≡ slice_index_or to.old i x }
 {
     let lanes: [A; N] = lanes_at::<A, N>(from, at);
     for k in 0..N {
@@ -63,8 +72,8 @@ fn merge_lanes<A: Copy, B: Copy, R: Merge<A, B>, const N: usize>(
 pub fn merge<A: Copy, B: Copy, R: Merge<A, B>, const N: usize>(rule: R, to: &mut [B], from: &[A])
     requires lanes { IsLaneCount N }
     requires same { length from.now ≡ length to.old }
-    requires takes { (i : ℕ) (d : B) (e : A) → i < length to.old → R.takes rule (slice_index_or to.old i d) (slice_index_or from.now i e) }
-    ensures { (i : ℕ) (d : B) (e : A) → i < length to.old → R.makes rule (slice_index_or to.old i d) (slice_index_or from.now i e) (slice_index_or to.new i d) }
+    requires takes { ForPairs (R.takes rule) to.old from.now }
+    ensures { ForTriples (R.makes rule) to.old from.now to.new }
 {
     let whole = to.len() / N;
     for block in 0..whole {

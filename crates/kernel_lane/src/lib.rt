@@ -1,4 +1,5 @@
-//! Small loops over rows of numbers, many elements at a time: shifts, byte orders, picks, widths, products, quotients and limits.
+//! Small loops over rows of numbers, many elements at a time, each equal to its plain rule: byte
+//! orders, shifts, picks, widths, products, quotients and limits. None takes memory.
 #![tactic(auto)]
 
 mod bytes;

@@ -1,5 +1,6 @@
 // Arithmetic on numerators of 64 bits.
-ghost use Rattle.std.specs.Prelude.{◌≡◌, ℕ, ◌<◌, ◌≤ℤ◌, ◌*ℤ◌, pos, length, slice_index_or, ⊤, FitsSigned};
+ghost use Rattle.std.specs.Prelude.{◌≡◌, ◌≤ℤ◌, ◌*ℤ◌, pos, length, FitsSigned};
+ghost use Rattle.kernel_lane.specs.Rows.{ForEach, ForPairs, ForTriples};
 ghost use Rattle.std.specs.Int.{w64};
 ghost use Rattle.kernel_lane.specs.Rules.{IsLaneCount, with_product, floor_quotient, nearest};
 
@@ -12,9 +13,9 @@ struct AddedProduct {
 }
 
 impl Merge<i64, i64> for AddedProduct {
-    ghost takes = { λ r sum x. FitsSigned w64 (r.k *ℤ x) × FitsSigned w64 (with_product sum x r.k) };
+    ghost takes = { λ r s x. FitsSigned w64 (r.k *ℤ x) × FitsSigned w64 (with_product s x r.k) };
 
-    ghost makes = { λ r sum x y. y ≡ with_product sum x r.k };
+    ghost makes = { λ r s x y. y ≡ with_product s x r.k };
 
     #[tactic(auto, unfolding(crate::specs::Rules::with_product))]
     fn merged(self, old: i64, from: i64) -> i64 {
@@ -59,9 +60,9 @@ impl Change<i64> for Limits {
 pub fn mul_add<const N: usize>(sum: &mut [i64], from: &[i64], k: i64)
     requires lanes { IsLaneCount N }
     requires same { length from.now ≡ length sum.old }
-    requires product { (i : ℕ) → i < length sum.old → FitsSigned w64 (k *ℤ slice_index_or from.now i (pos 0)) }
-    requires fits { (i : ℕ) → i < length sum.old → FitsSigned w64 (with_product (slice_index_or sum.old i (pos 0)) (slice_index_or from.now i (pos 0)) k) }
-    ensures { (i : ℕ) → i < length sum.old → slice_index_or sum.new i (pos 0) ≡ with_product (slice_index_or sum.old i (pos 0)) (slice_index_or from.now i (pos 0)) k }
+    requires products { ForEach (λ x. FitsSigned w64 (k *ℤ x)) from.now }
+    requires sums { ForPairs (λ s x. FitsSigned w64 (with_product s x k)) sum.old from.now }
+    ensures { ForTriples (λ s x t. t ≡ with_product s x k) sum.old from.now sum.new }
 {
     merge::<i64, i64, AddedProduct, N>(AddedProduct { k }, sum, from);
 }
@@ -70,16 +71,16 @@ pub fn mul_add<const N: usize>(sum: &mut [i64], from: &[i64], k: i64)
 pub fn floor_div<const N: usize>(v: &mut [i64], d: i64)
     requires lanes { IsLaneCount N }
     requires divisor { pos 1 ≤ℤ d }
-    ensures { (i : ℕ) → i < length v.old → slice_index_or v.new i (pos 0) ≡ floor_quotient (slice_index_or v.old i (pos 0)) d }
+    ensures { ForPairs (λ x y. y ≡ floor_quotient x d) v.old v.new }
 {
     change::<i64, FloorQuotient, N>(FloorQuotient { d }, v);
 }
 
-/// Makes each number the nearest one of `least` to `greatest`, of which the first is not above the second.
+/// Makes each number the nearest one of `least` to `greatest`. The first is not above the second.
 pub fn clamp<const N: usize>(v: &mut [i64], least: i64, greatest: i64)
     requires lanes { IsLaneCount N }
     requires order { least ≤ℤ greatest }
-    ensures { (i : ℕ) → i < length v.old → slice_index_or v.new i (pos 0) ≡ nearest least greatest (slice_index_or v.old i (pos 0)) }
+    ensures { ForPairs (λ x y. y ≡ nearest least greatest x) v.old v.new }
 {
     change::<i64, Limits, N>(Limits { least, greatest }, v);
 }

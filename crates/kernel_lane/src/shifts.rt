@@ -1,5 +1,6 @@
 // Shifts of numbers.
-ghost use Rattle.std.specs.Prelude.{◌≡◌, ℕ, ◌<◌, length, slice_index_or};
+ghost use Rattle.std.specs.Prelude.{◌≡◌, ◌<◌};
+ghost use Rattle.kernel_lane.specs.Rows.{ForPairs};
 ghost use Rattle.kernel_lane.specs.Rules.{IsLaneCount, left_shifted, right_shifted};
 
 use crate::lanes::change;
@@ -40,8 +41,7 @@ impl<T: Px> Change<T> for RightShift {
 pub fn shift_left<T: Px, const N: usize>(v: &mut [T], n: u32)
     requires lanes { IsLaneCount N }
     requires shift { n < T.bits }
-    ensures { (i : ℕ) (d : T) → i < length v.old
-        → T.number (slice_index_or v.new i d) ≡ left_shifted T.bits n (T.number (slice_index_or v.old i d)) }
+    ensures { ForPairs (λ x y. T.number y ≡ left_shifted T.bits n (T.number x)) v.old v.new }
 {
     change::<T, LeftShift, N>(LeftShift { n }, v);
 }
@@ -50,8 +50,7 @@ pub fn shift_left<T: Px, const N: usize>(v: &mut [T], n: u32)
 pub fn shift_right<T: Px, const N: usize>(v: &mut [T], n: u32)
     requires lanes { IsLaneCount N }
     requires shift { n < T.bits }
-    ensures { (i : ℕ) (d : T) → i < length v.old
-        → T.number (slice_index_or v.new i d) ≡ right_shifted n (T.number (slice_index_or v.old i d)) }
+    ensures { ForPairs (λ x y. T.number y ≡ right_shifted n (T.number x)) v.old v.new }
 {
     change::<T, RightShift, N>(RightShift { n }, v);
 }

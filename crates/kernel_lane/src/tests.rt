@@ -1,5 +1,6 @@
 // Rows by hand, and each call beside its plain rule at lengths below, at and above the lanes.
-ghost use Rattle.std.specs.Prelude.{◌≡◌, ℕ, ◌≤◌, ◌<◌, ◌^◌, ◌≤ℤ◌, ◌<ℤ◌, pos, length, slice_index_or};
+ghost use Rattle.std.specs.Prelude.{◌≤◌, ◌<◌, ◌^◌, ◌≤ℤ◌, ◌<ℤ◌, pos, length};
+ghost use Rattle.kernel_lane.specs.Rows.{ForEach};
 ghost use Rattle.kernel_lane.specs.Rules.{IsLaneCount};
 
 use crate::{
@@ -18,16 +19,13 @@ fn sample(i: usize) -> u16
 }
 
 // Those numbers, in 64 bits.
-fn numbers() -> [i64; MOST]
-    ensures count { length result ≡ 70 }
-    ensures least { (i : ℕ) → i < 70 → pos 0 ≤ℤ slice_index_or result i (pos 0) }
-    ensures most { (i : ℕ) → i < 70 → slice_index_or result i (pos 0) <ℤ pos (2 ^ 16) }
+fn fill(v: &mut [i64])
+    requires short { length v.old ≤ 70 }
+    ensures { ForEach (λ x. (pos 0 ≤ℤ x) × (x <ℤ pos (2 ^ 16))) v.new }
 {
-    let mut v = [0i64; MOST];
-    for i in 0..MOST {
+    for i in 0..v.len() {
         v[i] = i64::from(sample(i));
     }
-    v
 }
 
 #[test]
@@ -119,7 +117,9 @@ fn check_widths<const N: usize>(rt: &impl Abort, len: usize)
     let mut back = [9u16; MOST];
     expand::<N>(&bytes[..len], &mut words[..len]);
     widen::<u8, N>(&bytes[..len], &mut wide[..len]);
-    narrow::<u16, N>(&numbers()[..len], &mut back[..len]);
+    let mut numbers = [0i64; MOST];
+    fill(&mut numbers[..len]);
+    narrow::<u16, N>(&numbers[..len], &mut back[..len]);
     for i in 0..MOST {
         let x = sample(i);
         let (word, number, same) = if i < len {
@@ -156,7 +156,9 @@ fn check_numerators<const N: usize>(rt: &impl Abort, len: usize)
     requires short { len ≤ 70 }
 {
     let mut sum = [50000i64; MOST];
-    mul_add::<N>(&mut sum[..len], &numbers()[..len], -3);
+    let mut numbers = [0i64; MOST];
+    fill(&mut numbers[..len]);
+    mul_add::<N>(&mut sum[..len], &numbers[..len], -3);
     let mut quotients = sum;
     floor_div::<N>(&mut quotients[..len], 7);
     let mut near = sum;

@@ -1,5 +1,6 @@
 // Numbers of one width from those of another.
-ghost use Rattle.std.specs.Prelude.{◌≡◌, ℕ, ◌^◌, ◌<◌, ◌≤ℤ◌, ◌<ℤ◌, pos, length, slice_index, slice_index_or, ⊤};
+ghost use Rattle.std.specs.Prelude.{◌≡◌, ◌^◌, ◌≤ℤ◌, ◌<ℤ◌, pos, length, ⊤};
+ghost use Rattle.kernel_lane.specs.Rows.{ForEach, ForPairs};
 ghost use Rattle.kernel_lane.specs.Rules.{IsLaneCount, expanded};
 
 use crate::lanes::merge;
@@ -50,7 +51,7 @@ impl<T: Px> Merge<i64, T> for Narrowing {
 pub fn expand<const N: usize>(from: &[u8], to: &mut [u16])
     requires lanes { IsLaneCount N }
     requires same { length from.now ≡ length to.old }
-    ensures { (i : ℕ) → i < length to.old → slice_index to.new i ≡ expanded (slice_index from.now i) }
+    ensures { ForPairs (λ x y. y ≡ expanded x) from.now to.new }
 {
     merge::<u8, u16, Expansion, N>(Expansion, to, from);
 }
@@ -59,7 +60,7 @@ pub fn expand<const N: usize>(from: &[u8], to: &mut [u16])
 pub fn widen<T: Px, const N: usize>(from: &[T], to: &mut [i64])
     requires lanes { IsLaneCount N }
     requires same { length from.now ≡ length to.old }
-    ensures { (i : ℕ) (d : T) → i < length to.old → slice_index_or to.new i (pos 0) ≡ pos (T.number (slice_index_or from.now i d)) }
+    ensures { ForPairs (λ x y. y ≡ pos (T.number x)) from.now to.new }
 {
     merge::<T, i64, Widening, N>(Widening, to, from);
 }
@@ -68,9 +69,8 @@ pub fn widen<T: Px, const N: usize>(from: &[T], to: &mut [i64])
 pub fn narrow<T: Px, const N: usize>(from: &[i64], to: &mut [T])
     requires lanes { IsLaneCount N }
     requires same { length from.now ≡ length to.old }
-    requires least { (i : ℕ) → i < length to.old → pos 0 ≤ℤ slice_index_or from.now i (pos 0) }
-    requires greatest { (i : ℕ) → i < length to.old → slice_index_or from.now i (pos 0) <ℤ pos (2 ^ T.bits) }
-    ensures { (i : ℕ) (d : T) → i < length to.old → pos (T.number (slice_index_or to.new i d)) ≡ slice_index_or from.now i (pos 0) }
+    requires fits { ForEach (λ x. (pos 0 ≤ℤ x) × (x <ℤ pos (2 ^ T.bits))) from.now }
+    ensures { ForPairs (λ x y. pos (T.number y) ≡ x) from.now to.new }
 {
     merge::<i64, T, Narrowing, N>(Narrowing, to, from);
 }
