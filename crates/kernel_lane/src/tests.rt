@@ -18,13 +18,13 @@ fn sample(i: usize) -> u16
     (i * 40503 % 65536) as u16
 }
 
-// Those numbers, in 64 bits.
-fn fill(v: &mut [i64])
-    requires short { length v.old ≤ 70 }
+// Those numbers from one on, in 64 bits.
+fn fill(v: &mut [i64], first: usize)
+    requires short { (length v.old ≤ 70) × (first ≤ 900) }
     ensures { ForEach (λ x. (pos 0 ≤ℤ x) × (x <ℤ pos (2 ^ 16))) v.new }
 {
     for i in 0..v.len() {
-        v[i] = i64::from(sample(i));
+        v[i] = i64::from(sample(first + i));
     }
 }
 
@@ -118,7 +118,7 @@ fn check_widths<const N: usize>(rt: &impl Abort, len: usize)
     expand::<N>(&bytes[..len], &mut words[..len]);
     widen::<u8, N>(&bytes[..len], &mut wide[..len]);
     let mut numbers = [0i64; MOST];
-    fill(&mut numbers[..len]);
+    fill(&mut numbers[..len], 0);
     narrow::<u16, N>(&numbers[..len], &mut back[..len]);
     for i in 0..MOST {
         let x = sample(i);
@@ -151,21 +151,26 @@ fn check_picks<const N: usize>(rt: &impl Abort, len: usize)
     }
 }
 
+#[tactic(auto, unfolding(crate::specs::Rules::with_product))]
 fn check_numerators<const N: usize>(rt: &impl Abort, len: usize)
     requires lanes { IsLaneCount N }
     requires short { len ≤ 70 }
 {
-    let mut sum = [50000i64; MOST];
+    let mut sum = [9i64; MOST];
     let mut numbers = [0i64; MOST];
-    fill(&mut numbers[..len]);
+    fill(&mut numbers[..len], 0);
+    fill(&mut sum[..len], 100);
     mul_add::<N>(&mut sum[..len], &numbers[..len], -3);
     let mut quotients = sum;
     floor_div::<N>(&mut quotients[..len], 7);
     let mut near = sum;
     clamp::<N>(&mut near[..len], -90000, 1234);
     for i in 0..MOST {
-        let x = i64::from(sample(i));
-        let y = if i < len { 50000 - 3 * x } else { 50000 };
+        let y = if i < len {
+            i64::from(sample(100 + i)) - 3 * i64::from(sample(i))
+        } else {
+            9
+        };
         assert_eq!(rt; sum[i], y);
         let parts = if i < len { 7 } else { 1 };
         let steps = i128::from(quotients[i]) * parts;
