@@ -1,5 +1,5 @@
 -- What holds of all elements of a row, or of two or three rows at the same places.
-use Rattle.std.specs.Prelude.{ℕ, ◌<◌, ◌≤◌, List, length, slice_index_or}
+use Rattle.std.specs.Prelude.{ℕ, ◌<◌, List, length, slice_index_or}
 
 -- each element of the row
 abbrev pub ForEach : {A : Type 0} → (A → Type 0) → List A → Type 0
