@@ -24,11 +24,12 @@ pub struct Hand<J> {
 impl<J> Hand<J> {
     ghost use Rattle.slice_claim.specs.Board.{hand_state};
 
-    /// How many of the board's hands it stands for, modulo 2^32: exact wherever the caller knows
-    /// that its share is below 2^32, as it does of a hand from `Board::new`, of the parts that
-    /// such a hand was split into, and of these joined again.
+    /// How many of the board's hands it stands for. It is exact wherever the caller knows that the
+    /// share is below 2^32, as of a hand from `Board::new`, of the parts that such a hand was
+    /// split into, and of these joined again; no other clause bounds it.
     pub fn share(&self) -> u32
-        ensures { result ≡ (hand_state self.now).share % 2 ^ 32 }
+        ensures exact { (hand_state self.now).share < 2 ^ 32 → result ≡ (hand_state self.now).share }
+        ensures modulo { result ≡ (hand_state self.now).share % 2 ^ 32 }
     {
         self.share
     }

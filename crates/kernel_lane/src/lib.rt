@@ -1,0 +1,21 @@
+//! Small loops over rows of numbers, many elements at a time, each equal to its plain rule: byte
+//! orders, shifts, picks, widths, products, quotients and limits. None takes memory.
+#![tactic(auto)]
+
+mod bytes;
+mod lanes;
+mod numerators;
+mod picks;
+mod px;
+mod rule;
+mod shifts;
+#[cfg(test)]
+mod tests;
+mod widths;
+
+pub use bytes::{swap_u16, swap_u32};
+pub use numerators::{clamp, floor_div, mul_add};
+pub use picks::pick;
+pub use px::Px;
+pub use shifts::{shift_left, shift_right};
+pub use widths::{expand, narrow, widen};

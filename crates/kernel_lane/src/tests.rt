@@ -1,0 +1,206 @@
+// Rows by hand, and each call beside its plain rule at lengths below, at and above the lanes.
+ghost use Rattle.std.specs.Prelude.{◌≤◌, ◌<◌, ◌^◌, ◌≤ℤ◌, ◌<ℤ◌, pos, length};
+ghost use Rattle.kernel_lane.specs.Rows.{ForEach};
+ghost use Rattle.kernel_lane.specs.Rules.{IsLaneCount};
+
+use crate::{
+    clamp, expand, floor_div, mul_add, narrow, pick, shift_left, shift_right, swap_u16, swap_u32,
+    widen,
+};
+use std::process::Abort;
+
+const MOST: usize = 70;
+
+// Numbers of 16 bits without order.
+fn sample(i: usize) -> u16
+    requires { i < 1000 }
+{
+    (i * 40503 % 65536) as u16
+}
+
+// Those numbers from one on, in 64 bits.
+fn fill(v: &mut [i64], first: usize)
+    requires short { (length v.old ≤ 70) × (first ≤ 900) }
+    ensures { ForEach (λ x. (pos 0 ≤ℤ x) × (x <ℤ pos (2 ^ 16))) v.new }
+{
+    for i in 0..v.len() {
+        v[i] = i64::from(sample(first + i));
+    }
+}
+
+#[test]
+fn rows_by_hand(rt: HostRuntime) {
+    let mut words = [0x1234u16];
+    swap_u16::<8>(&mut words);
+    assert_eq!(rt; words, [0x3412]);
+    let mut longs = [0x12345678u32];
+    swap_u32::<8>(&mut longs);
+    assert_eq!(rt; longs, [0x78563412]);
+    let mut bytes = [0x81u8];
+    shift_left::<u8, 8>(&mut bytes, 1);
+    assert_eq!(rt; bytes, [0x02]);
+    shift_right::<u8, 8>(&mut bytes, 1);
+    assert_eq!(rt; bytes, [0x01]);
+    let mut words = [0u16; 3];
+    expand::<16>(&[0x00, 0x80, 0xFF], &mut words);
+    assert_eq!(rt; words, [0x0000, 0x8080, 0xFFFF]);
+    let mut bytes = [0u8; 2];
+    pick::<u8, 32>(&[1, 2, 3, 4, 5, 6], 3, 1, &mut bytes);
+    assert_eq!(rt; bytes, [2, 5]);
+    let mut numbers = [-1i64, 7, -4];
+    floor_div::<8>(&mut numbers, 2);
+    assert_eq!(rt; numbers, [-1, 3, -2]);
+    let mut numbers = [-1i64, 256, 9];
+    clamp::<8>(&mut numbers, 0, 255);
+    assert_eq!(rt; numbers, [0, 255, 9]);
+}
+
+fn check_swaps<const N: usize>(rt: &impl Abort, len: usize)
+    requires lanes { IsLaneCount N }
+    requires short { len ≤ 70 }
+{
+    let mut words = [0u16; MOST];
+    let mut longs = [0u32; MOST];
+    for i in 0..MOST {
+        words[i] = sample(i);
+        longs[i] = u32::from(sample(i)) * 65536 + u32::from(sample(i + 1));
+    }
+    swap_u16::<N>(&mut words[..len]);
+    swap_u32::<N>(&mut longs[..len]);
+    for i in 0..MOST {
+        let [high, low] = sample(i).to_be_bytes();
+        let [last, first] = sample(i + 1).to_be_bytes();
+        let word = if i < len { [low, high] } else { [high, low] };
+        let long = if i < len {
+            [first, last, low, high]
+        } else {
+            [high, low, last, first]
+        };
+        assert_eq!(rt; words[i].to_be_bytes(), word);
+        assert_eq!(rt; longs[i].to_be_bytes(), long);
+    }
+}
+
+fn check_shifts<const N: usize>(rt: &impl Abort, len: usize)
+    requires lanes { IsLaneCount N }
+    requires short { len ≤ 70 }
+{
+    let mut up = [0u16; MOST];
+    let mut down = [0u16; MOST];
+    for i in 0..MOST {
+        up[i] = sample(i);
+        down[i] = sample(i);
+    }
+    shift_left::<u16, N>(&mut up[..len], 3);
+    shift_right::<u16, N>(&mut down[..len], 3);
+    for i in 0..MOST {
+        let x = u32::from(sample(i));
+        let (higher, lower) = if i < len {
+            (x * 8 % 65536, x / 8)
+        } else {
+            (x, x)
+        };
+        assert_eq!(rt; (u32::from(up[i]), u32::from(down[i])), (higher, lower));
+    }
+}
+
+fn check_widths<const N: usize>(rt: &impl Abort, len: usize)
+    requires lanes { IsLaneCount N }
+    requires short { len ≤ 70 }
+{
+    let mut bytes = [0u8; MOST];
+    for i in 0..MOST {
+        bytes[i] = (sample(i) / 256) as u8;
+    }
+    let mut words = [9u16; MOST];
+    let mut wide = [9i64; MOST];
+    let mut back = [9u16; MOST];
+    expand::<N>(&bytes[..len], &mut words[..len]);
+    widen::<u8, N>(&bytes[..len], &mut wide[..len]);
+    let mut numbers = [0i64; MOST];
+    fill(&mut numbers[..len], 0);
+    narrow::<u16, N>(&numbers[..len], &mut back[..len]);
+    for i in 0..MOST {
+        let x = sample(i);
+        let (word, number, same) = if i < len {
+            (x / 256 * 257, i64::from(x / 256), x)
+        } else {
+            (9, 9, 9)
+        };
+        assert_eq!(rt; (words[i], wide[i], back[i]), (word, number, same));
+    }
+}
+
+fn check_picks<const N: usize>(rt: &impl Abort, len: usize)
+    requires lanes { IsLaneCount N }
+    requires short { len ≤ 70 }
+{
+    let mut from = [0u32; 3 * MOST];
+    for i in 0..3 * MOST {
+        from[i] = u32::from(sample(i));
+    }
+    let mut to = [9u32; MOST];
+    pick::<u32, N>(&from, 3, 2, &mut to[..len]);
+    for i in 0..MOST {
+        let x = if i < len {
+            u32::from(sample(3 * i + 2))
+        } else {
+            9
+        };
+        assert_eq!(rt; to[i], x);
+    }
+}
+
+#[tactic(auto, unfolding(crate::specs::Rules::with_product))]
+fn check_numerators<const N: usize>(rt: &impl Abort, len: usize)
+    requires lanes { IsLaneCount N }
+    requires short { len ≤ 70 }
+{
+    let mut sum = [9i64; MOST];
+    let mut numbers = [0i64; MOST];
+    fill(&mut numbers[..len], 0);
+    fill(&mut sum[..len], 100);
+    mul_add::<N>(&mut sum[..len], &numbers[..len], -3);
+    let mut quotients = sum;
+    floor_div::<N>(&mut quotients[..len], 7);
+    let mut near = sum;
+    clamp::<N>(&mut near[..len], -90000, 1234);
+    for i in 0..MOST {
+        let y = if i < len {
+            i64::from(sample(100 + i)) - 3 * i64::from(sample(i))
+        } else {
+            9
+        };
+        assert_eq!(rt; sum[i], y);
+        let parts = if i < len { 7 } else { 1 };
+        let steps = i128::from(quotients[i]) * parts;
+        assert!(rt; steps <= i128::from(y) && i128::from(y) < steps + parts);
+        let nearest = match y {
+            _ if i >= len => y,
+            _ if y < -90000 => -90000,
+            _ if y > 1234 => 1234,
+            _ => y,
+        };
+        assert_eq!(rt; near[i], nearest);
+    }
+}
+
+fn check_all<const N: usize>(rt: &impl Abort)
+    requires lanes { IsLaneCount N }
+{
+    for len in [0, 1, 7, 8, 9, 31, 32, 33, 70usize] {
+        assert!(rt; len <= MOST);
+        check_swaps::<N>(rt, len);
+        check_shifts::<N>(rt, len);
+        check_widths::<N>(rt, len);
+        check_picks::<N>(rt, len);
+        check_numerators::<N>(rt, len);
+    }
+}
+
+#[test]
+fn calls_equal_their_plain_rules(rt: HostRuntime) {
+    check_all::<8>(&rt);
+    check_all::<16>(&rt);
+    check_all::<32>(&rt);
+}
