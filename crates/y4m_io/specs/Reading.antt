@@ -1,15 +1,13 @@
 -- What reading a line takes from a source, and what it answers. Each word takes what the source shows before and after.
-use Rattle.std.specs.Prelude.{◌≡◌, false, ℕ, List, [], take, Option, None, Some, IfSome, Result, Ok, Err}
+use Rattle.std.specs.Prelude.{◌≡◌, false, ℕ, List, take, Option, None, Some, IfSome, Result, Ok, Err}
 use Rattle.std.specs.List.{list_any}
 use Rattle.pix_io.specs.Shown.{Shown}
-use Rattle.pix_io.specs.Streams.{Takes, HasEnded}
+use Rattle.pix_io.specs.Streams.{Takes}
 use Rattle.y4m_io.specs.declared.fault.StreamFault.{StreamFault}
 use Rattle.y4m_io.specs.declared.fault.HeaderEnd.{HeaderEnd}
 use Rattle.y4m_io.specs.declared.fault.HeaderEnd.TheVariants as header
 use Rattle.y4m_io.specs.declared.fault.LineEnd.{LineEnd}
 use Rattle.y4m_io.specs.declared.fault.LineEnd.TheVariants as line
-use Rattle.y4m_io.specs.declared.fault.FrameLine.{FrameLine}
-use Rattle.y4m_io.specs.declared.fault.FrameLine.TheVariants.{Frame, End}
 use Rattle.y4m_io.specs.declared.header.Header.{Header}
 use Rattle.y4m_io.specs.Lines.{is_newline}
 use Rattle.y4m_io.specs.HeaderLine.{HeaderLine, header_cut}
@@ -53,8 +51,3 @@ TakesHeader old new header =
 -- the bytes left began with a frame line, and exactly the line was taken
 abbrev pub TakesFrameLine : Shown → Shown → Type 0
 TakesFrameLine old new = IfSome old.bytes (λ bytes. (size : ℕ) × (frame_line_cut bytes ≡ Ok (Some size)) × Takes old new (take size bytes))
-
--- a frame line was taken, or no byte was left and none is taken
-abbrev pub TakesFrame : Shown → Shown → FrameLine → Type 0
-TakesFrame old new Frame = TakesFrameLine old new
-TakesFrame old new End = Takes old new [] × HasEnded new

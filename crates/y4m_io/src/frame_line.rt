@@ -1,8 +1,9 @@
 // The line in front of a frame.
-ghost use Rattle.std.specs.Prelude.{◌≡◌, Err, IfSome, IfOk, IfErr, OnErr};
+ghost use Rattle.std.specs.Prelude.{◌≡◌, [], Ok, Err, IfSome, IfErr, OnErr};
 ghost use Rattle.pix_io.specs.Faults.{HasCause};
+ghost use Rattle.pix_io.specs.Streams.{Takes, HasEnded};
 ghost use Rattle.y4m_io.specs.FrameLine.{frame_line_cut, IsFrameLineFault};
-ghost use Rattle.y4m_io.specs.Reading.{line_fault, line_reads, TakesFront, TakesOpen, TakesFrame};
+ghost use Rattle.y4m_io.specs.Reading.{line_fault, line_reads, TakesFront, TakesOpen, TakesFrameLine};
 
 use crate::line::{LINE_SIZE, LineKind, read_line};
 use crate::{FrameLine, LineEnd};
@@ -16,7 +17,8 @@ use pix_io::Source;
 /// first wrong byte. `ReadFault` comes only where the input's count of faults rises. No memory is taken. The input is not
 /// read again after its end.
 pub fn read_frame_line<In: Source>(input: &mut In) -> Result<FrameLine, LineEnd>
-    ensures line { IfOk result (TakesFrame (In.shown input.old) (In.shown input.new)) }
+    ensures line { result ≡ Ok FrameLine.Frame → TakesFrameLine (In.shown input.old) (In.shown input.new) }
+    ensures end { result ≡ Ok FrameLine.End → Takes (In.shown input.old) (In.shown input.new) [] × HasEnded (In.shown input.new) }
     ensures fault { IfErr result (λ end. IfSome (line_fault end) (λ fault. IfSome (In.shown input.old).bytes (λ bytes. frame_line_cut bytes ≡ Err fault))) }
     ensures known { IfErr result (λ end. IfSome (line_fault end) IsFrameLineFault) }
     ensures front { OnErr result (TakesFront (In.shown input.old) (In.shown input.new)) }

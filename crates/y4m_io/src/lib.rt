@@ -5,16 +5,20 @@
 #![tactic(auto)]
 
 mod fault;
+mod range;
 mod frame_line;
 mod header;
 mod header_line;
+mod text;
 mod line;
 mod size;
 mod stream_format;
 mod tags;
 
+pub use range::default_range;
 pub use fault::{FrameLine, HeaderEnd, LineEnd, StreamFault};
 pub use frame_line::read_frame_line;
 pub use header::{Header, TagText};
 pub use header_line::read_header;
+pub use text::header_text;
 pub use stream_format::is_stream_format;

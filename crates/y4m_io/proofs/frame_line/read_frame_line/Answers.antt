@@ -3,7 +3,7 @@ use Rattle.y4m_io.proofs.LineCuts.{frame_told, frame_fault_told}
 use Rattle.y4m_io.proofs.frame_line.read_frame_line.Goals as goal
 
 pub returns-in-Ok-Some-clause-line : goal.returns-in-Ok-Some-clause-line
-returns-in-Ok-Some-clause-line g c =
+returns-in-Ok-Some-clause-line g c is =
     let told = rw c.in-Ok-Some.field-0-is at c.in-Ok-Some.ensures.line in
     let line = take c.in-Ok-Some.field-0-0 c.read_line.new.line in
     let long : length line ≡ c.in-Ok-Some.field-0-0 = length-take-le c.in-Ok-Some.field-0-0 c.read_line.new.line (omega arith) in
