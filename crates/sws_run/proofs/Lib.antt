@@ -1,3 +1,4 @@
+pub mod FormatLines
 pub mod Fronts
 pub mod Last
 pub mod Parts

@@ -1,5 +1,4 @@
 -- The line on notes of each ending.
-use Prim.Native.String.{String}
 use Rattle.std.specs.Prelude.{ℕ, List, [], ◌++◌, codes, decimal}
 use Rattle.desc_table.specs.declared.fault.FormatFault.{FormatFault}
 use Rattle.desc_table.specs.declared.fault.FormatFault.TheVariants.{Unknown, Subsampled, FloatFormat, Bitstream, OtherUnsupported}
@@ -13,40 +12,40 @@ use Rattle.sws_run.specs.declared.ended.Ended.{Ended}
 use Rattle.sws_run.specs.declared.ended.Ended.TheVariants.{Done, Usage, Format, PaletteTarget, Stream, ReadFault, WriteFault, OutOfMemory, TooManyFrames}
 
 -- the number and the name of a fault of words
-abbrev pub usage_text : UsageFault → String
-usage_text Words = "1 Words"
-usage_text Task = "2 Task"
-usage_text Missing = "3 Missing"
-usage_text Unwanted = "4 Unwanted"
-usage_text Value = "5 Value"
-usage_text Size = "6 Size"
-usage_text FixedRange = "7 FixedRange"
-usage_text RgbRange = "8 RgbRange"
-usage_text NotStreamFormat = "9 NotStreamFormat"
+abbrev pub usage_text : UsageFault → List ℕ
+usage_text Words = codes "1 Words"
+usage_text Task = codes "2 Task"
+usage_text Missing = codes "3 Missing"
+usage_text Unwanted = codes "4 Unwanted"
+usage_text Value = codes "5 Value"
+usage_text Size = codes "6 Size"
+usage_text FixedRange = codes "7 FixedRange"
+usage_text RgbRange = codes "8 RgbRange"
+usage_text NotStreamFormat = codes "9 NotStreamFormat"
 
 -- of a fault of a format's name
-abbrev pub format_text : FormatFault → String
-format_text Unknown = "1 Unknown"
-format_text Subsampled = "2 Subsampled"
-format_text FloatFormat = "3 FloatFormat"
-format_text Bitstream = "4 Bitstream"
-format_text OtherUnsupported = "5 OtherUnsupported"
+abbrev pub format_text : FormatFault → List ℕ
+format_text Unknown = codes "1 Unknown"
+format_text Subsampled = codes "2 Subsampled"
+format_text FloatFormat = codes "3 FloatFormat"
+format_text Bitstream = codes "4 Bitstream"
+format_text OtherUnsupported = codes "5 OtherUnsupported"
 
 -- of a fault of a stream
-abbrev pub stream_text : StreamFault → String
-stream_text NoMagic = "1 NoMagic"
-stream_text LineTooLong = "2 LineTooLong"
-stream_text BadTag = "3 BadTag"
-stream_text NoSize = "4 NoSize"
-stream_text BadSize = "5 BadSize"
-stream_text BadColour = "6 BadColour"
-stream_text NoFrameLine = "7 NoFrameLine"
-stream_text Truncated = "8 Truncated"
+abbrev pub stream_text : StreamFault → List ℕ
+stream_text NoMagic = codes "1 NoMagic"
+stream_text LineTooLong = codes "2 LineTooLong"
+stream_text BadTag = codes "3 BadTag"
+stream_text NoSize = codes "4 NoSize"
+stream_text BadSize = codes "5 BadSize"
+stream_text BadColour = codes "6 BadColour"
+stream_text NoFrameLine = codes "7 NoFrameLine"
+stream_text Truncated = codes "8 Truncated"
 
 -- which name is meant
-abbrev pub side_text : SideName → String
-side_text In = " in"
-side_text Out = " out"
+abbrev pub side_text : SideName → List ℕ
+side_text In = codes " in"
+side_text Out = codes " out"
 
 abbrev pub after_frames : ℕ → List ℕ
 after_frames frames = codes " after " ++ decimal frames ++ codes " frames\n"
@@ -54,10 +53,10 @@ after_frames frames = codes " after " ++ decimal frames ++ codes " frames\n"
 -- the line of an ending, with its newline; none where the run is done
 unfoldable pub line_of : Ended → List ℕ
 line_of (Done frames) = []
-line_of (Usage fault) = codes "sws: usage " ++ codes (usage_text fault) ++ codes "\n"
-line_of (Format side fault) = codes "sws: format " ++ codes (format_text fault) ++ codes (side_text side) ++ codes "\n"
+line_of (Usage fault) = codes "sws: usage " ++ usage_text fault ++ codes "\n"
+line_of (Format side fault) = codes "sws: format " ++ format_text fault ++ side_text side ++ codes "\n"
 line_of PaletteTarget = codes "sws: format 6 PaletteTarget out\n"
-line_of (Stream fault frames) = codes "sws: stream " ++ codes (stream_text fault) ++ after_frames frames
+line_of (Stream fault frames) = codes "sws: stream " ++ stream_text fault ++ after_frames frames
 line_of (ReadFault frames) = codes "sws: read fault" ++ after_frames frames
 line_of (WriteFault frames) = codes "sws: write fault" ++ after_frames frames
 line_of (OutOfMemory frames) = codes "sws: out of memory" ++ after_frames frames

@@ -2,7 +2,9 @@
 #![tactic(auto)]
 
 mod ended;
+mod format_list;
 mod frame;
+mod notes_line;
 mod request;
 mod run;
 

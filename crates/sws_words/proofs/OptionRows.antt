@@ -1,5 +1,6 @@
 -- A loop over the rows of the table of options: the options that are left.
-use Rattle.std.proofs.Common.{◌≡◌, ◌∙◌, ◌<◌, ◌≤◌, ◌+◌, ◌||◌, ℕ, Bool, true, false, List, [], ◌∷◌, drop, length, slice_index_or, suc, ap, sym, drop-cons, drop_of_length-le, add-one, arith}
+use Rattle.std.proofs.Common.{◌≡◌, ◌∙◌, ◌<◌, ◌≤◌, ◌+◌, ◌||◌, ℕ, Bool, true, false, List, [], ◌∷◌, drop, length, slice_index_or}
+use Rattle.std.proofs.Common.{refl, sym, ap, drop-cons, drop_of_length-le, add-one}
 use Rattle.std.specs.Prelude.{map}
 use Rattle.std.specs.List.{list_any}
 use Rattle.sws_words.specs.declared.options.OptionRow.{OptionRow}
@@ -23,17 +24,18 @@ or_true false b e = cc
 
 or_false : (a b : Bool) → a ≡ false → (a || b) ≡ b
 or_false true b e = cc
-or_false false b e = Rattle.std.proofs.Common.refl
+or_false false b e = refl
 
--- the test holds of the option at place i
-pub any_here : (p : CommandOption → Bool) (rows : List OptionRow) (i : ℕ) (d : OptionRow) (found : Bool) → i < length rows
-    → found ≡ p (option_of (slice_index_or rows i d)) → found ≡ true → list_any p (left_from rows i) ≡ true
-any_here p rows i d found below is holds = ap (list_any p) (next_option rows i d below) ∙ or_true _ _ (sym is ∙ holds)
+-- the option at place i passes the test
+pub any_here : (p : CommandOption → Bool) (rows : List OptionRow) (i : ℕ) (d : OptionRow) (passes : Bool) → i < length rows
+    → passes ≡ p (option_of (slice_index_or rows i d)) → passes ≡ true → list_any p (left_from rows i) ≡ true
+any_here p rows i d passes below is holds = ap (list_any p) (next_option rows i d below) ∙ or_true _ _ (sym is ∙ holds)
 
 -- it does not
-pub any_behind : (p : CommandOption → Bool) (rows : List OptionRow) (i : ℕ) (d : OptionRow) (found : Bool) → i < length rows
-    → found ≡ p (option_of (slice_index_or rows i d)) → found ≡ false → list_any p (left_from rows i) ≡ list_any p (left_from rows (i + 1))
-any_behind p rows i d found below is fails = ap (list_any p) (next_option rows i d below) ∙ or_false _ _ (sym is ∙ fails)
+pub any_behind : (p : CommandOption → Bool) (rows : List OptionRow) (i : ℕ) (d : OptionRow) (passes : Bool) → i < length rows
+    → passes ≡ p (option_of (slice_index_or rows i d)) → passes ≡ false
+    → list_any p (left_from rows i) ≡ list_any p (left_from rows (i + 1))
+any_behind p rows i d passes below is fails = ap (list_any p) (next_option rows i d below) ∙ or_false _ _ (sym is ∙ fails)
 
 -- no option is left
 pub any_ended : (p : CommandOption → Bool) (rows : List OptionRow) (i : ℕ) → length rows ≤ i → list_any p (left_from rows i) ≡ false

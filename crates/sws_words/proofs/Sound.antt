@@ -1,5 +1,6 @@
 -- A conversion that breaks no rule is sound.
-use Rattle.std.proofs.Common.{◌≡◌, ◌∙◌, ◌<◌, ◌≤◌, ◌*◌, ◌&&◌, ◌||◌, ℕ, Bool, true, false, not, List, [], ◌∷◌, length, slice_index_or, zero, suc, refl, sym, ap, subst, arith, nat_le}
+use Rattle.std.proofs.Common.{◌≡◌, ◌<◌, ◌≤◌, ◌&&◌, ◌||◌, ℕ, Bool, true, false, not, if◌then◌else◌, List, [], ◌∷◌, length, slice_index_or}
+use Rattle.std.proofs.Common.{zero, suc, refl, arith, nat_le}
 use Rattle.std.specs.Prelude.{Option, Some, None, is_some, unwrap_or, option_map, option_and_then, IfSome, IfOk, Result, Ok, Err, codes}
 use Rattle.std.specs.Option.{option_map_or}
 use Rattle.std.specs.List.{list_any}
@@ -11,30 +12,32 @@ use Rattle.desc_table.specs.declared.fault.FormatFault.{FormatFault}
 use Rattle.desc_table.specs.Format.{format_count}
 use Rattle.desc_table.specs.Refused.{lookup}
 use Rattle.desc_table.proofs.Lookup.{lookup-Ok}
-use Rattle.sws_words.specs.Given.{form_given, matrix_given, number_given, side_given, size_given, source_given, target_given, value_of}
-use Rattle.sws_words.specs.Options.{CommandOption, is_barred, is_needed, options}
+use Rattle.sws_words.specs.Given.{form_given, matrix_given, number_given, range_given, side_given, size_given, source_given, target_given}
+use Rattle.sws_words.specs.Given.{value_of}
+use Rattle.sws_words.specs.Options.{CommandOption, is_barred, is_needed, is_stream, option, options}
 use Rattle.sws_words.specs.Values.{form_named, is_frame_size, is_value, number_of, number_within, size_of}
-use Rattle.sws_words.specs.Rules.{bars, conversion_given, either_side, finds, has_fixed_range, has_no_stream_form, has_rgb_range, is_misread, is_missing, is_no_frame, is_stream_format, is_unwanted, lacks, misreads}
+use Rattle.sws_words.specs.Rules.{bars, conversion_given, either_side, finds, has_fixed_range, has_no_stream_form, has_rgb_range}
+use Rattle.sws_words.specs.Rules.{is_misread, is_missing, is_no_frame, is_stream_format, is_unwanted, lacks, misreads}
 use Rattle.sws_words.specs.Task.{FitsForm, HasName, HasParts, IsConversion, IsFrame, IsSide, IsSource}
 use Rattle.sws_words.specs.declared.task.Form.{Form}
 use Rattle.sws_words.specs.declared.task.Form.TheVariants.{Raw, Y4m}
 use Rattle.sws_words.specs.declared.task.Named.{Named}
-use Rattle.sws_words.specs.declared.options.Need.TheVariants.{UnlessStream, WithRaw}
+use Rattle.sws_words.specs.declared.options.Owners.TheVariants.{Every}
+use Rattle.sws_words.specs.declared.options.Need.TheVariants.{Never, UnlessStream, WithRaw}
+use Rattle.sws_words.specs.declared.options.Values.TheVariants.{Formats}
 use Rattle.sws_words.specs.declared.options.TaskName.TheVariants as task
 
--- what none of a list passes, no element passes
-none_of : {X : Type 0} (p : X → Bool) (xs : List X) (i : ℕ) (d : X) → list_any p xs ≡ false → i < length xs → p (slice_index_or xs i d) ≡ false
-none_of p [] i d none below = absurd (omega arith)
-none_of p (x ∷ xs) zero d none below = first (p x) (list_any p xs) none
-  where
-    first : (a b : Bool) → (a || b) ≡ false → a ≡ false
-    first true b e = cc
-    first false b e = refl
-none_of p (x ∷ xs) (suc i) d none below = none_of p xs i d (second (p x) (list_any p xs) none) (omega arith)
-  where
-    second : (a b : Bool) → (a || b) ≡ false → b ≡ false
-    second true b e = cc
-    second false b e = e
+-- neither holds
+neither : (a b : Bool) → (a || b) ≡ false → (a ≡ false) × (b ≡ false)
+neither true b e = cc
+neither false b e = (refl, e)
+
+-- what no element of a list passes, the element at a place does not pass
+none_at : {X : Type 0} (p : X → Bool) (xs : List X) (i : ℕ) (d : X) → list_any p xs ≡ false → i < length xs
+    → p (slice_index_or xs i d) ≡ false
+none_at p [] i d none below = absurd (omega arith)
+none_at p (x ∷ xs) zero d none below = (neither (p x) (list_any p xs) none).0
+none_at p (x ∷ xs) (suc i) d none below = none_at p xs i d (neither (p x) (list_any p xs) none).1 (omega arith)
 
 -- a size that passes the test is that of a frame
 frame_of : (width height : ℕ) → not (is_frame_size width height) ≡ false → IsFrame width height
@@ -46,8 +49,11 @@ frame_of width height passes = record {
   area = grind (arith, nat_tests);
 }
 
+abbrev size_or_zero : Option (ℕ × ℕ) → ℕ × ℕ
+size_or_zero size = unwrap_or size (0, 0)
+
 sized : (size : Option (ℕ × ℕ)) → not (is_some size) ≡ false → option_map_or (λ s. not (is_frame_size s.0 s.1)) size false ≡ false
-    → IsFrame (unwrap_or size (0, 0)).0 (unwrap_or size (0, 0)).1
+    → IsFrame (size_or_zero size).0 (size_or_zero size).1
 sized None read frame = cc
 sized (Some s) read frame = frame_of s.0 s.1 frame
 
@@ -60,7 +66,8 @@ source_of : (form : Option Form) (name size : Option Text) (side : Text → Name
     → (is_some size && is_barred WithRaw form) ≡ false
     → option_map_or (λ text. not (is_some (size_of text))) size false ≡ false
     → option_map_or (λ s. not (is_frame_size s.0 s.1)) (option_and_then size_of size) false ≡ false
-    → IsSource (unwrap_or form Raw) (option_map side name) (unwrap_or (option_and_then size_of size) (0, 0)).0 (unwrap_or (option_and_then size_of size) (0, 0)).1
+    → IsSource (unwrap_or form Raw) (option_map side name)
+    (size_or_zero (option_and_then size_of size)).0 (size_or_zero (option_and_then size_of size)).1
 source_of None name size side known a b c d read frame = cc
 source_of (Some Raw) None size side known a b c d read frame = cc
 source_of (Some Raw) (Some n) None side known a b c d read frame = cc
@@ -70,7 +77,8 @@ source_of (Some Y4m) None (Some s) side known a b c d read frame = cc
 source_of (Some Y4m) None None side known a b c d read frame = (refl, refl)
 
 -- a form that is given is one
-known_form : (text : Option Text) → option_map_or (λ t. not (is_some (form_named t))) text false ≡ false → not (is_some (option_map_or form_named text (Some Raw))) ≡ false
+known_form : (text : Option Text) → option_map_or (λ t. not (is_some (form_named t))) text false ≡ false
+    → not (is_some (option_map_or form_named text (Some Raw))) ≡ false
 known_form None read = refl
 known_form (Some t) read = read
 
@@ -83,7 +91,7 @@ matrix_has_name (Some name) = go (matrix_named name) refl
     go None is = (codes "bt601", refl)
     go (Some m) is = (name, is)
 
--- a format that is found is of the table
+-- a format that a name finds is of the table
 found_below : (name : Text) → IfOk (lookup name) (λ id. id < format_count)
 found_below name = go (lookup name) refl
   where
@@ -91,81 +99,93 @@ found_below name = go (lookup name) refl
     go (Ok id) is = (lookup-Ok name id is).0
     go (Err fault) is = tt
 
-side_of : (given : List Row) (name matrix range : Text) → has_fixed_range (side_given given name matrix range) ≡ false → has_rgb_range (side_given given name matrix range) ≡ false
-    → IsSide (side_given given name matrix range)
-side_of given name matrix range fixed full = record { known = found_below name; named = matrix_has_name (value_of given matrix); fixed = fixed; full = full }
+side_of : (given : List Row) (name matrix range : Text) → has_fixed_range (side_given given name matrix range) ≡ false
+    → has_rgb_range (side_given given name matrix range) ≡ false → IsSide (side_given given name matrix range)
+side_of given name matrix range fixed full =
+    record { known = found_below name; named = matrix_has_name (value_of given matrix); fixed = fixed; full = full }
+
+-- the number, where it is of the range
+abbrev kept : ℕ → ℕ → ℕ → Option ℕ
+kept least most n = if nat_le least n && nat_le n most then Some n else None
+
+abbrev IsWithin : ℕ → ℕ → ℕ → Type 0
+IsWithin least most n = (least ≤ n) × (n ≤ most)
+
+kept_within : (least most default n : ℕ) → IsWithin least most default → IsWithin least most (unwrap_or (kept least most n) default)
+kept_within least most default n bounds = go (nat_le least n) (nat_le n most) refl refl
+  where
+    go : (a b : Bool) → nat_le least n ≡ a → nat_le n most ≡ b
+        → IsWithin least most (unwrap_or (if a && b then Some n else None) default)
+    go true true low high = (grind (arith, nat_tests), grind (arith, nat_tests))
+    go true false low high = bounds
+    go false b low high = bounds
 
 -- a number that is given, or the one that stands for none, is of the range
-within : (least most default : ℕ) (text : Option Text) → least ≤ default → default ≤ most
-    → (least ≤ unwrap_or (option_and_then (number_within least most) text) default) × (unwrap_or (option_and_then (number_within least most) text) default ≤ most)
-within least most default None low high = (low, high)
-within least most default (Some text) low high = go (number_of text)
+within : (least most default : ℕ) (text : Option Text) → IsWithin least most default
+    → IsWithin least most (unwrap_or (option_and_then (number_within least most) text) default)
+within least most default None bounds = bounds
+within least most default (Some text) bounds = go (number_of text)
   where
-    kept : (n : ℕ) (a b : Bool) → nat_le least n ≡ a → nat_le n most ≡ b
-        → (least ≤ unwrap_or (Rattle.std.specs.Prelude.if◌then◌else◌ (a && b) (Some n) None) default) × (unwrap_or (Rattle.std.specs.Prelude.if◌then◌else◌ (a && b) (Some n) None) default ≤ most)
-    kept n true true x y = (grind (arith, nat_tests), grind (arith, nat_tests))
-    kept n true false x y = (low, high)
-    kept n false b x y = (low, high)
-
-    go : (number : Option ℕ) → (least ≤ unwrap_or (option_and_then (λ n. Rattle.std.specs.Prelude.if◌then◌else◌ (nat_le least n && nat_le n most) (Some n) None) number) default)
-        × (unwrap_or (option_and_then (λ n. Rattle.std.specs.Prelude.if◌then◌else◌ (nat_le least n && nat_le n most) (Some n) None) number) default ≤ most)
-    go None = (low, high)
-    go (Some n) = kept n (nat_le least n) (nat_le n most) refl refl
+    go : (number : Option ℕ) → IsWithin least most (unwrap_or (option_and_then (kept least most) number) default)
+    go None = bounds
+    go (Some n) = kept_within least most default n bounds
 
 -- the form of the output fits the target
-fits : (form : Option Form) (side : Named) → (Rattle.sws_words.specs.Options.is_stream form && finds (λ id. not (is_stream_format id)) side.format) ≡ false → FitsForm (unwrap_or form Raw) side
+fits : (form : Option Form) (side : Named) → (is_stream form && finds (λ id. not (is_stream_format id)) side.format) ≡ false
+    → FitsForm (unwrap_or form Raw) side
 fits None side e = tt
 fits (Some Raw) side e = tt
 fits (Some Y4m) side e = e
 
 -- neither side breaks a rule
-neither : (breaks : Named → Bool) (source : Option Named) (target : Named) → (option_map_or breaks source false || breaks target) ≡ false
-    → IfSome source (λ side. breaks side ≡ false) × (breaks target ≡ false)
-neither breaks None target e = (tt, e)
-neither breaks (Some side) target e = go (breaks side) (breaks target) e
-  where
-    go : (a b : Bool) → (a || b) ≡ false → (a ≡ false) × (b ≡ false)
-    go true b e = cc
-    go false b e = (refl, e)
+neither_side : (breaks : Named → Bool) (source : Option Named) (target : Named)
+    → (option_map_or breaks source false || breaks target) ≡ false → IfSome source (λ side. breaks side ≡ false) × (breaks target ≡ false)
+neither_side breaks None target e = (tt, e)
+neither_side breaks (Some side) target e = neither (breaks side) (breaks target) e
 
-named_side : (given : List Row) (name : Option Text) → IfSome (option_map (λ n. side_given given n (codes "in-matrix") (codes "in-range")) name) (λ side. has_fixed_range side ≡ false)
-    → IfSome (option_map (λ n. side_given given n (codes "in-matrix") (codes "in-range")) name) (λ side. has_rgb_range side ≡ false)
-    → IfSome (option_map (λ n. side_given given n (codes "in-matrix") (codes "in-range")) name) IsSide
-named_side given None fixed full = tt
-named_side given (Some n) fixed full = side_of given n (codes "in-matrix") (codes "in-range") fixed full
+-- the source, where its name is given
+abbrev source_side : List Row → Option Text → Option Named
+source_side given = option_map (λ name. side_given given name (codes "in-matrix") (codes "in-range"))
+
+sound_source : (given : List Row) (name : Option Text) → IfSome (source_side given name) (λ side. has_fixed_range side ≡ false)
+    → IfSome (source_side given name) (λ side. has_rgb_range side ≡ false) → IfSome (source_side given name) IsSide
+sound_source given None fixed full = tt
+sound_source given (Some n) fixed full = side_of given n (codes "in-matrix") (codes "in-range") fixed full
 
 same_parts : (given : List Row) (name : Option Text)
-    → IfSome (option_map (λ n. side_given given n (codes "in-matrix") (codes "in-range")) name)
-    (HasParts (matrix_given given (codes "in-matrix")) (Rattle.sws_words.specs.Given.range_given given (codes "in-range")))
+    → IfSome (source_side given name) (HasParts (matrix_given given (codes "in-matrix")) (range_given given (codes "in-range")))
 same_parts given None = tt
 same_parts given (Some n) = (refl, refl)
 
-no_option : CommandOption
-no_option = Rattle.sws_words.specs.Options.option "" Rattle.sws_words.specs.declared.options.Owners.TheVariants.Every Rattle.sws_words.specs.declared.options.Need.TheVariants.Never Rattle.sws_words.specs.declared.options.Values.TheVariants.Formats
+-- what stands past the end of the table
+past_the_end : CommandOption
+past_the_end = option "" Every Never Formats
 
-pub sound_conversion : (given : List Row) → is_missing given task.Convert ≡ false → is_unwanted given task.Convert ≡ false → is_misread given ≡ false → is_no_frame given ≡ false
-    → either_side has_fixed_range given ≡ false → either_side has_rgb_range given ≡ false → has_no_stream_form given ≡ false → IsConversion (conversion_given given)
+pub sound_conversion : (given : List Row) → is_missing given task.Convert ≡ false → is_unwanted given task.Convert ≡ false
+    → is_misread given ≡ false → is_no_frame given ≡ false → either_side has_fixed_range given ≡ false
+    → either_side has_rgb_range given ≡ false → has_no_stream_form given ≡ false → IsConversion (conversion_given given)
 unfolding options is_missing is_unwanted is_misread lacks bars misreads is_value conversion_given source_given target_given
 sound_conversion given missing unwanted misread frame fixed full form =
-    let sides_fixed = neither has_fixed_range (source_given given) (target_given given) fixed in
-    let sides_full = neither has_rgb_range (source_given given) (target_given given) full in
+    let sides_fixed = neither_side has_fixed_range (source_given given) (target_given given) fixed in
+    let sides_full = neither_side has_rgb_range (source_given given) (target_given given) full in
     record {
-      from = source_of (form_given given (codes "from")) (value_of given (codes "in")) (value_of given (codes "size")) (λ name. side_given given name (codes "in-matrix") (codes "in-range"))
-          (known_form (value_of given (codes "from")) (none_of (misreads given) options 1 no_option misread (omega arith)))
-          (none_of (lacks given task.Convert) options 4 no_option missing (omega arith))
-          (none_of (lacks given task.Convert) options 3 no_option missing (omega arith))
-          (none_of (bars given task.Convert) options 4 no_option unwanted (omega arith))
-          (none_of (bars given task.Convert) options 3 no_option unwanted (omega arith))
-          (none_of (misreads given) options 3 no_option misread (omega arith))
+      from = source_of (form_given given (codes "from")) (value_of given (codes "in")) (value_of given (codes "size"))
+          (λ name. side_given given name (codes "in-matrix") (codes "in-range"))
+          (known_form (value_of given (codes "from")) (none_at (misreads given) options 1 past_the_end misread (omega arith)))
+          (none_at (lacks given task.Convert) options 4 past_the_end missing (omega arith))
+          (none_at (lacks given task.Convert) options 3 past_the_end missing (omega arith))
+          (none_at (bars given task.Convert) options 4 past_the_end unwanted (omega arith))
+          (none_at (bars given task.Convert) options 3 past_the_end unwanted (omega arith))
+          (none_at (misreads given) options 3 past_the_end misread (omega arith))
           frame;
       parts = same_parts given (value_of given (codes "in"));
-      sides = named_side given (value_of given (codes "in")) sides_fixed.0 sides_full.0;
+      sides = sound_source given (value_of given (codes "in")) sides_fixed.0 sides_full.0;
       to = side_of given _ (codes "out-matrix") (codes "out-range") sides_fixed.1 sides_full.1;
       form = fits (form_given given (codes "to")) (target_given given) form;
       named = matrix_has_name (value_of given (codes "in-matrix"));
-      dither_most = (within 0 4 0 (value_of given (codes "dither")) (omega arith) (omega arith)).1;
-      workers_least = (within 1 64 1 (value_of given (codes "workers")) (omega arith) (omega arith)).0;
-      workers_most = (within 1 64 1 (value_of given (codes "workers")) (omega arith) (omega arith)).1;
-      slice_least = (within 1 16384 16 (value_of given (codes "slice")) (omega arith) (omega arith)).0;
-      slice_most = (within 1 16384 16 (value_of given (codes "slice")) (omega arith) (omega arith)).1;
+      dither_most = (within 0 4 0 (value_of given (codes "dither")) (omega arith, omega arith)).1;
+      workers_least = (within 1 64 1 (value_of given (codes "workers")) (omega arith, omega arith)).0;
+      workers_most = (within 1 64 1 (value_of given (codes "workers")) (omega arith, omega arith)).1;
+      slice_least = (within 1 16384 16 (value_of given (codes "slice")) (omega arith, omega arith)).0;
+      slice_most = (within 1 16384 16 (value_of given (codes "slice")) (omega arith, omega arith)).1;
     }

@@ -1,5 +1,5 @@
 -- The command line as clap is told of it: one simple command, whose options take one value each.
-use Rattle.std.specs.Prelude.{Bool, true, ℕ, List, [], ◌∷◌, map, fold, codes, Some}
+use Rattle.std.specs.Prelude.{Bool, true, List, fold, codes, Some}
 use Rattle.clap.specs.Walk.{Row, Rule, Text, is_empty}
 use Rattle.clap.specs.Simple.{App, matches_of, new_app, new_rule, on_top, with_rule}
 use Rattle.clap.specs.Faults.{fault_of}

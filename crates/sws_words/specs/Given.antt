@@ -1,6 +1,5 @@
 -- What is given: the options that stand in the words, with their values.
-use Prim.Native.String.{String}
-use Rattle.std.specs.Prelude.{ℕ, Bool, List, [], codes, Option, Some, is_some, unwrap_or, option_and_then, option_map}
+use Rattle.std.specs.Prelude.{ℕ, List, [], codes, Option, Some, unwrap_or, option_and_then, option_map}
 use Rattle.std.specs.Option.{option_map_or}
 use Rattle.clap.specs.Walk.{Row, Text, first_of, rows_of}
 use Rattle.clap.specs.Matches.{found_of}

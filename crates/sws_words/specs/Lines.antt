@@ -1,6 +1,6 @@
 -- Lines of words, and what a reference that was written apart from this program makes of them.
 use Prim.Native.String.{String}
-use Rattle.std.specs.Prelude.{◌≡◌, ℕ, ◌==◌, List, [], ◌∷◌, map, codes, if◌then◌else◌, Option, Some, None, Result, Ok, Err}
+use Rattle.std.specs.Prelude.{◌≡◌, ℕ, ◌==◌, List, [], ◌∷◌, map, codes, if◌then◌else◌, Some, None, Result, Ok, Err}
 use Rattle.colour_matrix.specs.Matrix.{bt601}
 use Rattle.sws_words.specs.Rules.{task_of}
 use Rattle.sws_words.specs.declared.fault.UsageFault.{UsageFault}

@@ -1,6 +1,7 @@
 -- The rules of the command line in their order, and the meaning of its words: a task, or the fault of the first rule that is broken.
 use Prim.Native.String.{String}
-use Rattle.std.specs.Prelude.{ℕ, Bool, true, false, not, ◌&&◌, ◌||◌, if◌then◌else◌, List, [], ◌∷◌, codes, Option, Some, None, is_some, unwrap_or, Result, Ok, Err}
+use Rattle.std.specs.Prelude.{ℕ, Bool, true, false, not, ◌&&◌, ◌||◌, if◌then◌else◌, List, [], ◌∷◌, codes, Option, Some, None, is_some}
+use Rattle.std.specs.Prelude.{unwrap_or, Result, Ok, Err}
 use Rattle.std.specs.Option.{option_map_or}
 use Rattle.std.specs.List.{list_any}
 use Rattle.std.specs.Str.{bytes_eq}
@@ -10,7 +11,8 @@ use Rattle.colour_matrix.specs.declared.class.Range.TheVariants.{Full, Limited}
 use Rattle.desc_table.specs.declared.fault.FormatFault.{FormatFault}
 use Rattle.desc_table.specs.Format.{desc_of, name_of}
 use Rattle.sws_words.specs.Command.{given_by, takes_words}
-use Rattle.sws_words.specs.Given.{form_given, matrix_given, number_given, range_given, size_given, source_given, target_given, task_given, value_of}
+use Rattle.sws_words.specs.Given.{form_given, matrix_given, number_given, range_given, size_given, source_given, target_given, task_given}
+use Rattle.sws_words.specs.Given.{value_of}
 use Rattle.sws_words.specs.Options.{CommandOption, has_option, is_barred, is_needed, is_stream, options}
 use Rattle.sws_words.specs.Values.{is_frame_size, is_value}
 use Rattle.sws_words.specs.declared.fault.UsageFault.{UsageFault}

@@ -57,7 +57,8 @@ size_of text = both (number_of (before_first (λ b. b == 120) text)) (number_of 
 
 -- a frame has 1 to 16384 pixels each way, and at most 33554432
 abbrev pub is_frame_size : ℕ → ℕ → Bool
-is_frame_size width height = nat_le 1 width && nat_le width 16384 && nat_le 1 height && nat_le height 16384 && nat_le (width * height) 33554432
+is_frame_size width height =
+    nat_le 1 width && nat_le width 16384 && nat_le 1 height && nat_le height 16384 && nat_le (width * height) 33554432
 
 -- whether a text is one of the values
 unfoldable pub is_value : Values → List ℕ → Bool

@@ -4,13 +4,15 @@ ghost use Rattle.std.specs.Prelude.{◌≡◌};
 /// What is wrong with the words. Of several faults the one that stands first here is answered.
 #[derive(Clone, Copy, Debug, PartialEq, Eq)]
 pub enum UsageFault {
-    /// The words are not options with one value each: an unknown option, a repeated one, a missing value or a stray word.
+    /// The words are not options with one value each: an unknown option, a repeated one, a missing
+    /// value or a stray word.
     Words,
     /// The value of `--task` is no task.
     Task,
     /// A required option is not given.
     Missing,
-    /// An option is given that the task does not have, or that the header of a YUV4MPEG2 source stands for.
+    /// An option is given that the task does not have, or that the header of a YUV4MPEG2 source
+    /// stands for.
     Unwanted,
     /// A value other than the name of a format is not in its set.
     Value,

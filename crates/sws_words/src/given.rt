@@ -1,6 +1,7 @@
 // What is given: the options that stand in the words, with their values.
 ghost use Rattle.std.specs.Prelude.{◌≡◌, ◌≤◌, IfSome, option_map};
-ghost use Rattle.sws_words.specs.Given.{given_in, value_of, task_given, form_given, size_given, range_given, matrix_given};
+ghost use Rattle.sws_words.specs.Given.{given_in, value_of, task_given, form_given, size_given};
+ghost use Rattle.sws_words.specs.Given.{range_given, matrix_given};
 ghost use Rattle.sws_words.specs.Given.{number_given, side_given, source_given, target_given};
 
 use crate::options::TaskName;

@@ -56,7 +56,8 @@ pub enum Values {
     Numbers { least: u64, most: u64 },
 }
 
-/// An option: its name without the two hyphens, which tasks have it, when they require it, and its values.
+/// An option: its name without the two hyphens, which tasks have it, when they require it, and its
+/// values.
 pub struct OptionRow {
     pub name: &'static str,
     pub owners: Owners,
@@ -86,10 +87,36 @@ static OPTIONS: [OptionRow; 14] = [
     row!("out-matrix", Pairs, Never, Values::Matrices),
     row!("in-range", Pairs, Never, Values::Ranges),
     row!("out-range", Pairs, Never, Values::Ranges),
-    row!("dither", Pairs, Never, Values::Numbers { least: 0, most: 4 }),
-    row!("workers", Workers, Never, Values::Numbers { least: 1, most: 64 }),
-    row!("slice", Workers, Never, Values::Numbers { least: 1, most: 16384 }),
-    row!("seed", Makers, Always, Values::Numbers { least: 0, most: 18446744073709551615 }),
+    row!(
+        "dither",
+        Pairs,
+        Never,
+        Values::Numbers { least: 0, most: 4 }
+    ),
+    row!(
+        "workers",
+        Workers,
+        Never,
+        Values::Numbers { least: 1, most: 64 }
+    ),
+    row!(
+        "slice",
+        Workers,
+        Never,
+        Values::Numbers {
+            least: 1,
+            most: 16384
+        }
+    ),
+    row!(
+        "seed",
+        Makers,
+        Always,
+        Values::Numbers {
+            least: 0,
+            most: 18446744073709551615
+        }
+    ),
 ];
 
 /// The options.

@@ -2,8 +2,10 @@
 ghost use Rattle.std.specs.Prelude.{◌≡◌, false, IfOk};
 ghost use Rattle.sws_words.specs.Given.{given_in};
 ghost use Rattle.sws_words.specs.Options.{option_of};
-ghost use Rattle.sws_words.specs.Rules.{lacks, bars, misreads, is_missing, is_unwanted, is_misread, is_no_frame};
-ghost use Rattle.sws_words.specs.Rules.{has_fixed_range, has_rgb_range, is_stream_format, has_no_stream_form};
+ghost use Rattle.sws_words.specs.Rules.{lacks, bars, misreads, is_missing, is_unwanted};
+ghost use Rattle.sws_words.specs.Rules.{is_misread, is_no_frame};
+ghost use Rattle.sws_words.specs.Rules.{has_fixed_range, has_rgb_range, is_stream_format};
+ghost use Rattle.sws_words.specs.Rules.{has_no_stream_form};
 ghost use Rattle.sws_words.specs.Rules.{either_side, conversion_given, task_by};
 ghost use Rattle.sws_words.specs.Task.{IsSound};
 

@@ -1,5 +1,7 @@
 // Lines of words, with what a reference that was written apart from this program makes of them.
-use crate::UsageFault::{FixedRange, Missing, NotStreamFormat, RgbRange, Size, Unwanted, Value, Words};
+use crate::UsageFault::{
+    FixedRange, Missing, NotStreamFormat, RgbRange, Size, Unwanted, Value, Words,
+};
 use crate::{Convert, Form, Named, Task, UsageFault, WordsEnd, read_words};
 use colour_matrix::{Matrix, Range, named};
 use desc_table::find;

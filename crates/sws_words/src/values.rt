@@ -1,6 +1,7 @@
 // The values of options.
 ghost use Rattle.std.specs.Prelude.{◌≡◌, ◌≤◌, IfSome};
-ghost use Rattle.sws_words.specs.Values.{task_named, form_named, range_named, number_of, number_within};
+ghost use Rattle.sws_words.specs.Values.{task_named, form_named, range_named, number_of};
+ghost use Rattle.sws_words.specs.Values.{number_within};
 ghost use Rattle.sws_words.specs.Values.{size_of, is_frame_size, is_value};
 
 use crate::options::{TaskName, Values};

@@ -1,5 +1,6 @@
 // The words, read with clap.
-ghost use Rattle.std.specs.Prelude.{◌≡◌, ◌⊎◌, true, false, map, string_bytes, Ok, Err, IfOk, IfErr, MatchResult};
+ghost use Rattle.std.specs.Prelude.{◌≡◌, ◌⊎◌, true, false, map, string_bytes, Ok, Err, IfOk};
+ghost use Rattle.std.specs.Prelude.{IfErr, MatchResult};
 ghost use Rattle.clap.specs.Values.{kind_of};
 ghost use Rattle.clap.specs.declared.error.kind.ErrorKind.TheVariants.{OutOfMemory};
 ghost use Rattle.sws_words.specs.Command.{takes_words, given_by};
@@ -32,8 +33,8 @@ fn given<'a>(alloc: Global, words: &'a [String]) -> Result<ArgMatches<'a>, Error
     command.try_get_matches_from(words)
 }
 
-/// The task that the words ask for, or the first rule that they break. The words do not begin with the program's name.
-/// Want of memory may come at any words.
+/// The task that the words ask for, or the first rule that they break. The words do not begin with
+/// the program's name. Want of memory may come at any words.
 #[tactic(auto, unfolding(crate::specs::Rules::task_of))]
 pub fn read_words(alloc: Global, words: &[String]) -> Result<Task, WordsEnd>
     ensures task { IfOk result (λ task. task_of (map string_bytes words.now) ≡ Ok task) }

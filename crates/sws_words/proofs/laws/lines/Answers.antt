@@ -5,14 +5,19 @@ use Rattle.desc_table.specs.Refused.{lookup, refused}
 use Rattle.sws_words.specs.Command.{command, given_by, takes_words}
 use Rattle.sws_words.specs.Given.{source_given, target_given, value_of}
 use Rattle.sws_words.specs.Options.{options}
-use Rattle.sws_words.specs.Rules.{bars, conversion_given, is_misread, is_missing, is_stream_format, is_unwanted, lacks, misreads, task_by, task_of}
+use Rattle.sws_words.specs.Rules.{bars, conversion_given, is_misread, is_missing, is_stream_format, is_unwanted, lacks, misreads, task_by}
+use Rattle.sws_words.specs.Rules.{task_of}
 use Rattle.sws_words.specs.Values.{is_value}
 use Rattle.sws_words.proofs.laws.lines.Goals as goal
 
 pub returns-clause-refused : goal.returns-clause-refused
-unfolding clap_on_literals command given_by takes_words options value_of source_given target_given bars conversion_given is_misread is_missing is_stream_format is_unwanted lacks misreads task_by task_of is_value lookup refused formats format_at
+unfolding
+    clap_on_literals command given_by takes_words options value_of source_given target_given bars conversion_given
+    is_misread is_missing is_stream_format is_unwanted lacks misreads task_by task_of is_value lookup refused formats format_at
 returns-clause-refused c = refl
 
 pub returns-clause-accepted : goal.returns-clause-accepted
-unfolding clap_on_literals command given_by takes_words options value_of source_given target_given bars conversion_given is_misread is_missing is_stream_format is_unwanted lacks misreads task_by task_of is_value lookup refused formats format_at
+unfolding
+    clap_on_literals command given_by takes_words options value_of source_given target_given bars conversion_given
+    is_misread is_missing is_stream_format is_unwanted lacks misreads task_by task_of is_value lookup refused formats format_at
 returns-clause-accepted c = refl

@@ -11,4 +11,5 @@ returns-in-Convert-clause-sound c =
     let missing : is_missing (given_in c.args.given.now) task.Convert ≡ false = cc in
     let unwanted : is_unwanted (given_in c.args.given.now) task.Convert ≡ false = cc in
     subst IsConversion (sym c.conversion.ensures)
-    (sound_conversion (given_in c.args.given.now) missing unwanted (search rules) (search rules) (search rules) (search rules) (search rules))
+    (sound_conversion (given_in c.args.given.now) missing unwanted
+    (search rules) (search rules) (search rules) (search rules) (search rules))
