@@ -1,29 +1,31 @@
 -- A frame behind its line, as it is read.
-use Rattle.std.proofs.Common.{◌≡◌, true, false, Bool, ℕ, zero, suc, ◌+◌, ◌-◌, ◌<◌, ◌≤◌, List, [], ◌∷◌, ◌++◌, length, refl, sym, ap, ◌∙◌, arith, subst, take, drop, length-append, length-drop, length-take-le, take_at, drop_at, Result, Ok, Err, if◌then◌else◌, IfSome, append-nil, nat_le, nat_eq, nat_lt}
+use Rattle.std.proofs.Common.{◌≡◌, true, false, Bool, ℕ, zero, suc, ◌+◌, ◌-◌, ◌<◌, ◌≤◌, List, [], ◌∷◌, ◌++◌, length, refl, sym, ap, ◌∙◌, arith, subst, take, drop, length-append, length-drop, length-take-le, take_at, drop_at, Result, Ok, Err, OnErr, if◌then◌else◌, IfSome, append-nil, nat_le, nat_eq, nat_lt}
 use Rattle.std.proofs.lemmas.Bool.Decides.{nat_tests}
 use Rattle.std.specs.declared.option.Option.{Option}
 use Rattle.std.specs.declared.option.Option.TheVariants.{None, Some}
-use Rattle.std.specs.List.{list_any}
+use Rattle.std.specs.List.{list_any, position_or_len}
+use Rattle.std.proofs.lemmas.List.{length-take}
 use Rattle.sws_words.specs.declared.task.Form.{Form}
 use Rattle.sws_words.specs.declared.task.Form.TheVariants.{Raw, Y4m}
 use Rattle.y4m_io.specs.declared.fault.StreamFault.{StreamFault}
 use Rattle.y4m_io.specs.declared.fault.StreamFault.TheVariants.{LineTooLong, Truncated, NoFrameLine}
 use Rattle.y4m_io.specs.Lines.{is_newline, line_of, line_cut}
 use Rattle.y4m_io.specs.FrameLine.{frame_line_cut, frame_line_in, has_frame_word}
+use Rattle.std.specs.Io.KnownBytes.{Consumes}
+use Rattle.pix_io.specs.Shown.{Shown}
+use Rattle.y4m_io.specs.declared.fault.LineEnd.{LineEnd}
+use Rattle.y4m_io.specs.declared.fault.LineEnd.TheVariants as line
+use Rattle.y4m_io.specs.Reading.{line_fault, line_reads, TakesOpen, TakesFrameLine}
 use Rattle.y4m_io.proofs.LineFronts.{line_of-append}
 use Rattle.sws_run.specs.Cut.{Frame, Piece, Nothing, Whole, Faulty, front_cut, piece_behind, piece_cut}
-use Rattle.sws_run.specs.Frames.{IsBehind, IsShort, TakesFrame, TakesPiece}
+use Rattle.sws_run.specs.Frames.{IfTold, IsBehind, IsShort, TakesFrame, TakesPiece}
 use Rattle.sws_run.proofs.Places.{behind_then}
+use Rattle.sws_run.proofs.Told.{some_map}
 
 -- ---- lines
 
-line_of-at : (b : Bool) (byte : ℕ) (bytes : List ℕ) → is_newline byte ≡ b → length (line_of bytes) ≤ length bytes → length (line_of (byte ∷ bytes)) ≤ length (byte ∷ bytes)
-line_of-at true byte bytes is below = grind (arith, is)
-line_of-at false byte bytes is below = grind (arith, is, below)
-
 length-line_of : (bytes : List ℕ) → length (line_of bytes) ≤ length bytes
-length-line_of [] = omega arith
-length-line_of (byte ∷ bytes) = line_of-at (is_newline byte) byte bytes refl (length-line_of bytes)
+length-line_of bytes = omega (arith, length-take (position_or_len is_newline bytes) bytes)
 
 -- a line that is cut off is followed by its newline
 cut_at : (front bytes line : List ℕ) (long whole : Bool) → length front ≤ length bytes → nat_eq (length front) (length bytes) ≡ whole
@@ -178,3 +180,35 @@ open_part front rest size none = (
   record { within = omega (arith, length-append front rest); left = sym (drop_at front rest (length front) refl) },
   subst (IsShort (length front)) (sym (piece_front Y4m size (front ++ rest) (frame_line_cut (front ++ rest)) refl)) (open_piece front rest size (frame_line_cut (front ++ rest)) none refl),
 )
+
+-- the line in front of a frame was taken
+pub record HasLine (bytes mid : List ℕ) : Type 0 where
+  pub size : ℕ
+  pub is : frame_line_cut bytes ≡ Ok (Some size)
+  pub behind : IsBehind size bytes mid
+
+line_told_at : (a b : Option (List ℕ)) → IfSome a (λ bytes. (size : ℕ) × (frame_line_cut bytes ≡ Ok (Some size)) × Consumes a b (take size bytes)) → IfTold a b HasLine
+line_told_at None b p = tt
+line_told_at (Some x) None p = absurd p.2
+line_told_at (Some x) (Some y) p = record { size = p.0; is = p.1; behind = line_front x y p.0 p.1 p.2 }
+
+pub line_told : (a b : Shown) → TakesFrameLine a b → IfTold a.bytes b.bytes HasLine
+line_told a b = line_told_at a.bytes b.bytes
+
+-- the fault of a line is that of the frame
+pub line_piece : (a : Option (List ℕ)) (size : ℕ) (end : LineEnd) → IfSome (line_fault end) (λ fault. IfSome a (λ bytes. frame_line_cut bytes ≡ Err fault))
+    → IfSome (line_fault end) (λ fault. IfSome a (λ bytes. piece_cut Y4m size bytes ≡ Faulty fault))
+line_piece a size end p =
+    some_map (line_fault end) (λ fault. IfSome a (λ bytes. frame_line_cut bytes ≡ Err fault)) (λ fault. IfSome a (λ bytes. piece_cut Y4m size bytes ≡ Faulty fault))
+    (λ fault q. some_map a (λ bytes. frame_line_cut bytes ≡ Err fault) (λ bytes. piece_cut Y4m size bytes ≡ Faulty fault) (λ bytes. line_fault_piece size bytes fault) q) p
+
+open_told_at : (a b : Option (List ℕ)) (front : List ℕ) (size : ℕ) → list_any is_newline front ≡ false → Consumes a b front → IfTold a b (TakesPiece Y4m size)
+open_told_at None b front size none p = tt
+open_told_at (Some x) None front size none p = absurd p
+open_told_at (Some x) (Some y) front size none p = subst (λ bytes. TakesPiece Y4m size bytes y) (sym p) (open_part front y size none)
+
+-- a read of the line failed
+pub open_told : (T U : Type 0) (a b : Shown) (size : ℕ) (end : LineEnd) → OnErr (line_reads {T = T} (Err end)) (TakesOpen a b)
+    → OnErr (line_reads {T = U} (Err end)) (IfTold a.bytes b.bytes (TakesPiece Y4m size))
+open_told T U a b size (line.Stream fault) p = tt
+open_told T U a b size line.ReadFault p = open_told_at a.bytes b.bytes p.0 size p.1 p.2

@@ -3,6 +3,7 @@ pub mod Fronts
 pub mod Last
 pub mod Parts
 pub mod Places
+pub mod Runs
 pub mod Sound
 pub mod Told
 pub mod Whole

@@ -18,6 +18,7 @@ use Rattle.sws_words.specs.Rules.{stream_formats, finds}
 use Rattle.sws_words.specs.Rules as words
 use Rattle.sws_words.specs.Task.{IsSource, IsSide, FitsForm, IsFrame, HasName}
 use Rattle.sws_words.specs.Task as task
+use Rattle.y4m_io.specs.StreamFormats.{colour_spaces, text_of_name}
 use Rattle.y4m_io.specs.StreamFormats as stream
 use Rattle.sws_run.specs.declared.ended.Ended.{Ended}
 use Rattle.sws_run.specs.declared.ended.Ended.TheVariants.{PaletteTarget}
@@ -28,14 +29,14 @@ use Rattle.sws_run.specs.Request.{format_of, raw_input, input_of, plain, target_
 
 -- ---- the formats of a stream are the same for the words and for the stream
 
-streams_computed : map (λ format. list_any (λ name. bytes_eq format.name (codes name)) stream_formats) formats ≡ map (λ format. is_some (stream.text_of_name format.name)) formats
-unfolding formats stream.text_of_name
+streams_computed : map (λ format. list_any (λ name. bytes_eq format.name (codes name)) stream_formats) formats ≡ map (λ format. is_some (text_of_name format.name)) formats
+unfolding formats colour_spaces text_of_name
 streams_computed = refl
 
 same_streams : (id : ℕ) → id < format_count → words.is_stream_format id ≡ stream.is_stream_format id
 unfolding words.is_stream_format
 same_streams id below =
-    agree_at_row (λ format. list_any (λ name. bytes_eq format.name (codes name)) stream_formats) (λ format. is_some (stream.text_of_name format.name)) streams_computed id below
+    agree_at_row (λ format. list_any (λ name. bytes_eq format.name (codes name)) stream_formats) (λ format. is_some (text_of_name format.name)) streams_computed id below
 
 -- ---- what is found
 
@@ -51,7 +52,7 @@ sound_input Y4m (Some side) width height is sides = absurd is
 pub record IsSoundTarget (form : Form) (id : ℕ) : Type 0 where
   pub below : id < format_count
   pub plain : (desc_of id).palette ≡ false
-  pub form : HasForm form id
+  pub fits : HasForm form id
 
 not_false : (b : Bool) → not b ≡ false → b ≡ true
 not_false true is = refl
@@ -65,7 +66,7 @@ has_form Y4m side id fits is below =
 target_found : (form : Form) (id : ℕ) (palette : Bool) → (desc_of id).palette ≡ palette → id < format_count → HasForm form id
     → IfOk (if palette then Err PaletteTarget else Ok id) (IsSoundTarget form)
 target_found form id true is below fits = tt
-target_found form id false is below fits = record { below = below; plain = is; form = fits }
+target_found form id false is below fits = record { below = below; plain = is; fits = fits }
 
 target_at : (form : Form) (side : Named) (found : Result ℕ FormatFault) → side.format ≡ found → IfOk found (λ id. id < format_count) → FitsForm form side
     → IfOk (target_of found) (IsSoundTarget form)
@@ -83,7 +84,7 @@ sound_with asked (Ok input) (Ok target) input_sound target_sound sound = record 
   input = input_sound;
   target = target_sound.below;
   plain = target_sound.plain;
-  form = target_sound.form;
+  form = target_sound.fits;
   source_matrix = sound.named;
   target_matrix = sound.to.named;
   dither = sound.dither_most;

@@ -8,7 +8,7 @@ pub returns-in-Ok-clause-part : goal.returns-in-Ok-clause-part
 returns-in-Ok-clause-part g c =
     let old = g.Out.Sink.shown c.args.output.now in
     let mid = g.Out.Sink.shown c.write_all.new.output in
-    let new = g.Out.Sink.shown c.write_all-2.new.output in
+    let new = g.Out.Sink.shown c.write_all-in-Ok.new.output in
     let frame = c.args.frame.now in
-    on_err_map c.write_all-2.result (WritesPart mid new frame) (WritesPart old new (front_in c.args.form ++ frame))
-    (part_more old mid new (front_in c.args.form) frame (rw (← c.front.ensures) c.in-Ok.ensures.written)) c.write_all-2.ensures.part_written
+    on_err_map c.write_all-in-Ok.result (WritesPart mid new frame) (WritesPart old new (front_in c.args.form ++ frame))
+    (part_more old mid new (front_in c.args.form) frame (rw (← c.front.ensures) c.in-Ok.ensures.written)) c.write_all-in-Ok.ensures.part_written
