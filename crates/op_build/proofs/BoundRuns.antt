@@ -23,7 +23,8 @@ use Rattle.op_list.specs.Apply.{apply}
 use Rattle.op_list.specs.Checked.{checked_apply}
 use Rattle.op_list.specs.Run.{run_from, checked_run_from}
 use Rattle.op_list.proofs.Runs.{forms_nothing, unformed_run, checked_both}
-use Rattle.op_build.specs.Shape.{element_type, element_counts, is_swapped, field_widths}
+use Rattle.pix_desc.specs.Shape.{element_counts, field_widths}
+use Rattle.op_build.specs.ElementType.{element_type, is_swapped}
 use Rattle.op_build.specs.Recipe.{only_if, channel_depth, from_places, missing_codes, to_places, spare_zeros, decode, convert, encode, recipe}
 use Rattle.op_build.specs.BoundClasses.{side_class, side_classes, IsOneOf}
 use Rattle.op_build.proofs.BoundPairs.{converting_is_there}

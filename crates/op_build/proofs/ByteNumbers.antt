@@ -11,7 +11,7 @@ use Rattle.pix_desc.proofs.FrameExists.{bit_of_byte}
 use Rattle.op_list.proofs.ReversedBytes.{power_of_bytes, reversed_bytes-below}
 use Rattle.op_list.specs.Pixel.{number_at}
 use Rattle.op_list.specs.Whole.{reversed_bytes}
-use Rattle.op_build.proofs.WordBits.{bit_in_order}
+use Rattle.pix_desc.proofs.WordBits.{bit_in_order}
 
 -- bit m of the number of some bytes of a frame is bit m of those bytes
 pub bit_at_number_at : (frame : List ℕ) (count at m : ℕ) → ((k : ℕ) → get_or frame k 0 < 256) → m < 8 * count

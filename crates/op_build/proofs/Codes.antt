@@ -14,7 +14,7 @@ use Rattle.pix_meaning.specs.Values.{entry_component, source_component}
 use Rattle.op_list.specs.declared.values.Values.TheVariants.{Numbers}
 use Rattle.op_list.specs.Values.{four}
 use Rattle.op_list.specs.Apply.{cleared_number, cleared, swizzled}
-use Rattle.op_build.specs.Shape.{position_of}
+use Rattle.pix_desc.specs.Shape.{position_of}
 use Rattle.op_build.specs.Recipe.{from_places, missing_code, missing_codes}
 use Rattle.op_build.specs.Codes.{code_of}
 use Rattle.op_list.proofs.Four.{get_or-four, same_four}

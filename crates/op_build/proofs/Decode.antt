@@ -12,11 +12,11 @@ use Rattle.op_list.specs.Values.{four, no_values}
 use Rattle.op_list.specs.Run.{run_from}
 use Rattle.op_list.specs.Typing.{stage_from}
 use Rattle.op_build.specs.Recipe.{decode}
-use Rattle.op_build.specs.Shape.{element_type}
+use Rattle.op_build.specs.ElementType.{element_type}
 use Rattle.op_build.specs.Codes.{code_of, decoded_type, GivesCodes, IsWholeTyped}
 use Rattle.op_build.proofs.DecodePlain.{decode_plain, stage_plain}
 use Rattle.op_build.proofs.DecodePalette.{decode_palette, stage_palette}
-use Rattle.op_build.proofs.Shapes.{has_type}
+use Rattle.op_build.proofs.ElementTypes.{has_type}
 
 pub decode_gives : (desc : Desc) (frame : List ℕ) (place : PixelPosition) → IsValid desc → All (λ byte. byte < 256) frame
     → run_from frame place Start (decode desc) no_values ≡ Numbers (four (code_of desc place.width place.rows frame place.x place.row))

@@ -25,7 +25,8 @@ use Rattle.op_list.specs.Apply.{cleared_number}
 use Rattle.op_list.specs.Run.{run_from}
 use Rattle.op_list.specs.Typing.{stage_from, stage_after}
 use Rattle.op_build.specs.Recipe.{decode, missing_code, missing_codes, split, from_places}
-use Rattle.op_build.specs.Shape.{element_type, element_counts, is_swapped}
+use Rattle.pix_desc.specs.Shape.{element_counts}
+use Rattle.op_build.specs.ElementType.{element_type, is_swapped}
 use Rattle.op_build.proofs.ByteNumbers.{in_order}
 use Rattle.op_build.proofs.Codes.{code_of-there}
 use Rattle.op_build.specs.Codes.{code_of}

@@ -22,18 +22,20 @@ use Rattle.op_list.specs.Pixel.{number_at, element_in, pixel_count, pixel_number
 use Rattle.op_list.specs.Apply.{cleared, swizzled}
 use Rattle.op_list.specs.Run.{run_from}
 use Rattle.op_list.specs.Typing.{stage_from}
-use Rattle.op_build.specs.Shape.{element_bytes, element_type, element_counts, element_index, field_widths, is_swapped, position_of}
+use Rattle.pix_desc.specs.Shape.{element_bytes, element_counts, element_index, field_widths, position_of}
+use Rattle.op_build.specs.ElementType.{element_type, is_swapped}
 use Rattle.op_build.specs.Recipe.{decode, split, from_places, missing_codes}
 use Rattle.op_build.proofs.ByteNumbers.{in_order, one_byte_in_order}
 use Rattle.op_build.proofs.Codes.{code_of-there, code_of-missing, plain_component, channel_listed, in_channels}
 use Rattle.op_build.specs.Codes.{code_of}
 use Rattle.op_build.proofs.DecodeRuns.{decode_by, ordered_element, run_shifts, run_fields, stage_shifts, stage_fields}
-use Rattle.op_build.proofs.ElementPlaces.{HasElements, element_index-below}
+use Rattle.pix_desc.proofs.ElementSlots.{HasElements, element_index-below}
 use Rattle.op_build.proofs.ElementStarts.{element_of_at, element_begins, word_begins}
 use Rattle.op_build.proofs.FieldValues.{pixel_start, element_field, word_field, shifted_field}
-use Rattle.op_build.proofs.Shapes.{first_size, has_layout, has_places, HasType, element_position, element_type_is, word_type_is, component_field}
-use Rattle.op_build.proofs.WordBits.{number_end}
-use Rattle.op_build.proofs.WordShape.{HasWord}
+use Rattle.pix_desc.proofs.PixelSlots.{first_size, has_layout, has_slots, element_position, component_field}
+use Rattle.op_build.proofs.ElementTypes.{HasType, element_type_is, word_type_is}
+use Rattle.pix_desc.proofs.WordBits.{number_end}
+use Rattle.pix_desc.proofs.WordShape.{HasWord}
 
 -- a number of one byte needs no turning round
 swap_needed : (frame : List ℕ) (be : Bool) (size at : ℕ) → ((k : ℕ) → get_or frame k 0 < 256)
@@ -135,7 +137,7 @@ module _ (desc : Desc) (frame : List ℕ) (place : PixelPosition) (valid : IsVal
         → cleared (missing_codes desc) (swizzled (from_places desc) (Numbers (four values))) ≡ Numbers (four codes)
     unfolding component_here
     decoded values are =
-        let places = has_places desc valid in
+        let places = has_slots desc valid in
         in_channels desc values codes
         (λ c below there.
         let j = component_at desc c in

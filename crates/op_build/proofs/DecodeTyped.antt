@@ -18,17 +18,19 @@ use Rattle.op_list.specs.declared.types.Stage.TheVariants.{Start, Typed}
 use Rattle.op_list.specs.Types.{bits, is_whole_type, is_wide, is_rational}
 use Rattle.op_list.specs.Typing.{may_follow, are_good, are_counts, are_typed, all_fit, entry_fits, stage_after}
 use Rattle.op_list.proofs.Typed.{typed_from, typed_none}
-use Rattle.op_build.specs.Shape.{element_type, element_counts, field_widths, is_swapped, position_of}
+use Rattle.pix_desc.specs.Shape.{element_counts, field_widths, position_of}
+use Rattle.op_build.specs.ElementType.{element_type, is_swapped}
 use Rattle.op_build.specs.Recipe.{decode, only_if, from_places, missing_code, missing_codes}
 use Rattle.op_build.proofs.Codes.{missing_code-below, channel_listed}
 use Rattle.op_build.proofs.DecodeRuns.{decode_by}
 use Rattle.op_build.proofs.DecodePlain.{decode_is, shifts, split_elements, split_word}
 use Rattle.op_build.proofs.DecodePalette as Palette
-use Rattle.op_build.proofs.ElementPlaces.{HasElements}
+use Rattle.pix_desc.proofs.ElementSlots.{HasElements}
 use Rattle.op_list.proofs.Four.{four_hold}
-use Rattle.op_build.proofs.Shapes.{first_size, has_layout, has_places, has_type, element_counts_are_good, field_widths_are_good}
-use Rattle.op_build.proofs.WordBits.{number_end, word_end}
-use Rattle.op_build.proofs.WordShape.{HasWord}
+use Rattle.pix_desc.proofs.PixelSlots.{first_size, has_layout, has_slots}
+use Rattle.op_build.proofs.ElementTypes.{has_type, element_counts_are_good, field_widths_are_good}
+use Rattle.pix_desc.proofs.WordBits.{number_end, word_end}
+use Rattle.pix_desc.proofs.WordShape.{HasWord}
 
 -- ---- the arguments of each operation
 
@@ -43,7 +45,7 @@ missing_codes_fit desc count valid deep =
 -- each channel is taken from one of the four values
 pub from_places_fit : (desc : Desc) → IsValid desc → desc.palette ≡ false → list_all (λ i. nat_lt i 4) (from_places desc) ≡ true
 from_places_fit desc valid none =
-    let places = has_places desc valid in
+    let places = has_slots desc valid in
     four_hold (λ c. nat_lt (if has_channel desc c then position_of desc (component_at desc c) else c) 4)
     (λ c below. lt-ltb _ 4 (⊎_elim
     (λ (there : has_channel desc c ≡ true).

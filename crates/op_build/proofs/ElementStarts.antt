@@ -14,10 +14,10 @@ use Rattle.op_list.specs.Types.{bytes}
 use Rattle.op_list.specs.Pixel.{number_at, element_in, element_of, pixel_count, pixel_number}
 use Rattle.op_list.proofs.Elements.{elements_in_order}
 use Rattle.op_list.proofs.Stored.{element_of-is}
-use Rattle.op_build.specs.Shape.{element_counts, element_index}
-use Rattle.op_build.proofs.Counts.{count_at, length-counts}
-use Rattle.op_build.proofs.ElementPlaces.{HasElements, element_index_is, first_in_plane}
-use Rattle.op_build.proofs.Planes.{component_in}
+use Rattle.pix_desc.specs.Shape.{element_counts, element_index}
+use Rattle.pix_desc.proofs.ElementCounts.{count_at, length-counts}
+use Rattle.pix_desc.proofs.ElementSlots.{HasElements, element_index_is, first_in_plane}
+use Rattle.pix_desc.proofs.PlaneSteps.{component_in}
 
 -- an element of a pixel is the number of the bytes where it begins
 pub element_of_at : (elem : PixType) (planes frame : List ℕ) (place : PixelPosition) (i at : ℕ) → i < sum planes → element_in (pixel_count place) (pixel_number place) 0 planes i * bytes elem ≡ at

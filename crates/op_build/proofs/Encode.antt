@@ -15,7 +15,7 @@ use Rattle.op_build.specs.Meaning.{elements_at}
 use Rattle.op_build.specs.Recipe.{encode}
 use Rattle.op_build.proofs.EncodeElements.{GivesValues, encode_elements}
 use Rattle.op_build.proofs.EncodeWord.{encode_word}
-use Rattle.op_build.proofs.Shapes.{has_layout}
+use Rattle.pix_desc.proofs.PixelSlots.{has_layout}
 
 pub encode_gives : (desc : Desc) (frame : List ℕ) (place : PixelPosition) (value : ℕ → ℕ → ℕ → ℕ) (vs : ℕ → ℚ) → IsValid desc → desc.palette ≡ false
     → FitDepths desc place.width place.rows value → ((j : ℕ) → j < desc.count → floor (vs (channel_of desc j)) ≡ pos (value j place.x place.row))

@@ -11,12 +11,12 @@ use Rattle.pix_desc.specs.Layouts.{IsLaidOut}
 use Rattle.pix_desc.proofs.BitPositions.{position_of, bit_position_is, same_position, byte_below}
 use Rattle.pix_desc.proofs.FrameReads.{IsReadBy, read_by, frame_bit_by}
 use Rattle.op_list.specs.Pixel.{number_at}
-use Rattle.op_build.specs.Shape.{element_counts, element_index}
+use Rattle.pix_desc.specs.Shape.{element_counts, element_index}
 use Rattle.op_build.proofs.ByteNumbers.{in_order, bit_at_in_order}
-use Rattle.op_build.proofs.Counts.{count_at, length-counts}
-use Rattle.op_build.proofs.ElementPlaces.{HasElements, element_index_is}
+use Rattle.pix_desc.proofs.ElementCounts.{count_at, length-counts}
+use Rattle.pix_desc.proofs.ElementSlots.{HasElements, element_index_is}
 use Rattle.op_build.proofs.ElementStarts.{IsInPlane, whole_steps}
-use Rattle.op_build.proofs.WordBits.{bit_in_order, number_place, number_end}
+use Rattle.pix_desc.proofs.WordBits.{bit_in_order, number_place, number_end}
 
 -- quotient and rest are determined
 same_parts : (q r a b w : ℕ) → a < w → b < w → q * w + a ≡ r * w + b → (q ≡ r) × (a ≡ b)

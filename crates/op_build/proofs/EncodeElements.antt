@@ -27,17 +27,19 @@ use Rattle.op_list.specs.Run.{run_from}
 use Rattle.op_list.proofs.Stored.{element_of-past}
 use Rattle.op_build.specs.Meaning.{elements_at}
 use Rattle.op_build.specs.Recipe.{encode, to_places, spare_zeros}
-use Rattle.op_build.specs.Shape.{element_bytes, element_type, element_counts, element_index, field_widths, is_swapped, slots}
+use Rattle.pix_desc.specs.Shape.{element_bytes, element_counts, element_index, field_widths, slots}
+use Rattle.op_build.specs.ElementType.{element_type, is_swapped}
 use Rattle.op_build.proofs.ByteNumbers.{in_order}
-use Rattle.op_build.proofs.ElementPlaces.{HasElements, element_index-apart, length-slots, slot_holds, index_slot}
+use Rattle.pix_desc.proofs.ElementSlots.{HasElements, element_index-apart, length-slots, slot_holds, index_slot}
 use Rattle.op_build.proofs.ElementStarts.{element_of_at, IsInPlane, find_in_plane, element_starts, component_in_plane}
 use Rattle.op_build.proofs.EncodeBits.{element_bit, component_bit}
 use Rattle.op_build.proofs.EncodeOrder.{IsSize, turned_back, ordered_below}
 use Rattle.op_build.proofs.EncodePlaces.{fits_type, spare_place, component_place}
 use Rattle.op_build.proofs.EncodeRuns.{encode_by, placed_code, run_shift}
 use Rattle.op_list.proofs.Four.{same_four}
-use Rattle.op_build.proofs.Shapes.{first_size, HasType, element_type_is}
-use Rattle.op_build.proofs.WordBits.{number_end}
+use Rattle.pix_desc.proofs.PixelSlots.{first_size}
+use Rattle.op_build.proofs.ElementTypes.{HasType, element_type_is}
+use Rattle.pix_desc.proofs.WordBits.{number_end}
 
 -- a slot holds a component or none
 pub slot_cases : (slot : Option ℕ) → (slot ≡ None) ⊎ ((j : ℕ) × (slot ≡ Some j))

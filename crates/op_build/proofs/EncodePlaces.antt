@@ -9,7 +9,7 @@ use Rattle.op_list.specs.Types.{bits}
 use Rattle.op_list.specs.Values.{four}
 use Rattle.op_list.specs.Whole.{modulo}
 use Rattle.op_list.specs.Apply.{cleared_number}
-use Rattle.op_build.specs.Shape.{slots}
+use Rattle.pix_desc.specs.Shape.{slots}
 use Rattle.op_build.specs.Recipe.{source_of, to_places, spare_zero, spare_zeros}
 use Rattle.op_build.proofs.EncodeRuns.{whole_code, placed_code}
 use Rattle.op_list.proofs.Four.{get_or-four}

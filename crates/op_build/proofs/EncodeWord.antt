@@ -30,7 +30,8 @@ use Rattle.op_list.specs.Run.{run_from}
 use Rattle.op_list.proofs.Stored.{element_of-past}
 use Rattle.op_build.specs.Meaning.{elements_at}
 use Rattle.op_build.specs.Recipe.{encode, to_places, spare_zeros}
-use Rattle.op_build.specs.Shape.{element_type, element_counts, element_slot, fields, no_field, field_widths, is_swapped, slots, position_of}
+use Rattle.pix_desc.specs.Shape.{element_counts, element_slot, fields, no_field, field_widths, slots, position_of}
+use Rattle.op_build.specs.ElementType.{element_type, is_swapped}
 use Rattle.op_build.proofs.ByteNumbers.{in_order, bit_at_in_order}
 use Rattle.op_build.proofs.ElementStarts.{word_begins}
 use Rattle.op_build.proofs.EncodeBits.{bit_in_order-below, bit_in_order-apart}
@@ -41,9 +42,10 @@ use Rattle.op_build.proofs.EncodePlaces.{fits_type, spare_place, component_place
 use Rattle.op_build.proofs.EncodeRuns.{encode_by, placed_code, run_pack}
 use Rattle.op_build.proofs.FieldValues.{word_field}
 use Rattle.op_list.proofs.Four.{get_or-four}
-use Rattle.op_build.proofs.Shapes.{has_places, component_field, word_type_is}
-use Rattle.op_build.proofs.WordBits.{bit_in_order, word_place, word_end}
-use Rattle.op_build.proofs.WordShape.{HasWord, sum-widths, length-field_widths, rest_below}
+use Rattle.pix_desc.proofs.PixelSlots.{has_slots, component_field}
+use Rattle.op_build.proofs.ElementTypes.{word_type_is}
+use Rattle.pix_desc.proofs.WordBits.{bit_in_order, word_place, word_end}
+use Rattle.pix_desc.proofs.WordShape.{HasWord, sum-widths, length-field_widths, rest_below}
 
 -- two fields that have a common bit are one
 same_field : (widths : List ℕ) (p q m : ℕ) → p < length widths → q < length widths → bits_below widths p ≤ m → m < bits_below widths p + get_or widths p 0
@@ -111,7 +113,7 @@ module _ (desc : Desc) (place : PixelPosition) (value : ℕ → ℕ → ℕ → 
   -- a component's field is its value
   component_field_is : (p j : ℕ) → p < 4 → p < length (slots desc) → get_or (slots desc) p None ≡ Some j → field (field_widths desc) word p ≡ at_place p % 2 ^ get_or (field_widths desc) p 0
   component_field_is p j below within holds =
-      let at = (has_places desc gives.valid).only p j within holds in
+      let at = (has_slots desc gives.valid).only p j within holds in
       let c = component_of desc j in
       let v = value j place.x place.row in
       let here = component_field desc j laid is at.0 in
@@ -156,7 +158,7 @@ module _ (desc : Desc) (place : PixelPosition) (value : ℕ → ℕ → ℕ → 
       ∙ sym (word_place desc laid j by.listed b by.inside) ∙ same_position desc c b k (laid.first j by.listed) by.at in
       let ends : word_shift desc c + b < 8 * size = omega (arith, word_end desc laid j by.listed, is.step j by.listed, by.inside) in
       let same : word_shift desc c + b ≡ m = bit_in_order-apart desc.be size (word_shift desc c + b) m ends bound at in
-      let places = has_places desc gives.valid in
+      let places = has_slots desc gives.valid in
       let q = position_of desc j in
       let here = component_field desc j laid is by.listed in
       let one : p ≡ q = same_field widths p q m (omega (arith, widths_long)) (omega (arith, widths_long, places.few, places.within j by.listed)) (omega arith) (omega arith)

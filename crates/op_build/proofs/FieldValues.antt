@@ -11,7 +11,7 @@ use Rattle.pix_desc.proofs.Bits.{bit_at_field}
 use Rattle.pix_desc.proofs.BitPositions.{position_of, bit_position_is, byte_below, frame_bit, frame_component_below}
 use Rattle.op_list.specs.Pixel.{number_at}
 use Rattle.op_build.proofs.ByteNumbers.{in_order, bit_at_in_order}
-use Rattle.op_build.proofs.WordBits.{bit_in_order, word_place, word_end, number_place, number_end}
+use Rattle.pix_desc.proofs.WordBits.{bit_in_order, word_place, word_end, number_place, number_end}
 
 module _ (desc : Desc) (width rows : ℕ) (frame : List ℕ) (j x row : ℕ) (laid : IsLaidOut desc) (bytes : All (λ byte. byte < 256) frame) (listed : j < desc.count) where
   -- where the pixel begins in the component's plane

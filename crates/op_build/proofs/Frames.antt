@@ -16,16 +16,18 @@ use Rattle.op_list.specs.Run.{read_length}
 use Rattle.op_list.specs.Typing.{are_counts, are_in_front, is_write, ends_with_write}
 use Rattle.op_build.specs.Frames.{ReadsFrames, FillsFrames}
 use Rattle.op_build.specs.Recipe.{decode, convert, encode, recipe, only_if, split, to_places, spare_zeros}
-use Rattle.op_build.specs.Shape.{element_bytes, element_type, element_counts, field_widths, is_swapped}
+use Rattle.pix_desc.specs.Shape.{element_bytes, element_counts, field_widths}
+use Rattle.op_build.specs.ElementType.{element_type, is_swapped}
 use Rattle.op_build.proofs.DecodePalette as palette
 use Rattle.op_build.proofs.DecodePalette.{is_byte_format}
 use Rattle.op_build.proofs.DecodePlain as plain
-use Rattle.op_build.proofs.ElementPlaces.{HasElements}
+use Rattle.pix_desc.proofs.ElementSlots.{HasElements}
 use Rattle.op_build.proofs.ElementStarts.{plane_start_is}
-use Rattle.op_build.proofs.Planes.{component_in}
+use Rattle.pix_desc.proofs.PlaneSteps.{component_in}
 use Rattle.op_build.proofs.ReadLengths.{elements_length, palette_length}
-use Rattle.op_build.proofs.Shapes.{first_size, has_layout, has_type, element_counts_are_good}
-use Rattle.op_build.proofs.WordShape.{HasWord}
+use Rattle.pix_desc.proofs.PixelSlots.{first_size, has_layout}
+use Rattle.op_build.proofs.ElementTypes.{has_type, element_counts_are_good}
+use Rattle.pix_desc.proofs.WordShape.{HasWord}
 
 -- ---- the bytes of the planes
 

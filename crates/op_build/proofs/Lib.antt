@@ -1,14 +1,3 @@
-pub mod Lists
-pub mod Planes
-pub mod Counts
-pub mod ElementPlaces
-pub mod Slots
-pub mod WordBits
-pub mod Ranges
-pub mod WordFields
-pub mod WordLayout
-pub mod WordShape
-pub mod Shapes
 pub mod ByteNumbers
 pub mod ElementStarts
 pub mod FieldValues
@@ -31,9 +20,6 @@ pub mod EncodeWord
 pub mod Encode
 pub mod DecodeTyped
 pub mod RecipeTyped
-pub mod Layouts
-pub mod FieldSteps
-pub mod SlotPlaces
 pub mod Depths
 pub mod BoundClasses
 pub mod LevelSizes
@@ -45,3 +31,4 @@ pub mod Fronts
 pub mod StepLists
 pub mod ReadLengths
 pub mod Frames
+pub mod ElementTypes

@@ -22,17 +22,19 @@ use Rattle.op_list.specs.declared.types.Stage.TheVariants.{Start, Typed, Ended}
 use Rattle.op_list.specs.Types.{bits, is_whole_type, is_wide, is_rational, is_same}
 use Rattle.op_list.specs.Typing.{may_follow, are_good, are_counts, are_typed, all_fit, entry_fits, stage_after, stage_from, IsOpList}
 use Rattle.op_list.proofs.Typed.{IsTyped, no_operations, one_more, one_more_if, both_parts}
-use Rattle.op_build.specs.Shape.{element_type, element_counts, field_widths, is_swapped, slots}
+use Rattle.pix_desc.specs.Shape.{element_counts, field_widths, slots}
+use Rattle.op_build.specs.ElementType.{element_type, is_swapped}
 use Rattle.op_build.specs.Codes.{decoded_type}
 use Rattle.op_build.specs.Recipe.{decode, convert, encode, recipe, only_if, from_codes, to_codes, to_places, source_of, spare_zero, spare_zeros}
 use Rattle.op_build.proofs.Decode.{decode_stage}
 use Rattle.op_build.proofs.DecodeTyped.{decode_typed}
-use Rattle.op_build.proofs.ElementPlaces.{HasElements}
+use Rattle.pix_desc.proofs.ElementSlots.{HasElements}
 use Rattle.op_build.proofs.EncodePlaces.{channel_below}
 use Rattle.op_list.proofs.Four.{four_hold}
-use Rattle.op_build.proofs.Shapes.{first_size, has_layout, has_places, has_type, element_counts_are_good, field_widths_are_good}
-use Rattle.op_build.proofs.WordBits.{number_end}
-use Rattle.op_build.proofs.WordShape.{HasWord}
+use Rattle.pix_desc.proofs.PixelSlots.{first_size, has_layout, has_slots}
+use Rattle.op_build.proofs.ElementTypes.{has_type, element_counts_are_good, field_widths_are_good}
+use Rattle.pix_desc.proofs.WordBits.{number_end}
+use Rattle.pix_desc.proofs.WordShape.{HasWord}
 
 -- ---- the first part
 
@@ -112,7 +114,7 @@ source_below desc p (Some j) below held = lt-ltb (channel_of desc j) 4 (channel_
 
 slot_below : (desc : Desc) (p j : ℕ) → IsValid desc → get_or (slots desc) p None ≡ Some j → j < 4
 slot_below desc p j valid here =
-    let places = has_places desc valid in
+    let places = has_slots desc valid in
     ⊎_elim
     (λ (inside : p < length (slots desc)). omega (arith, (places.only p j inside here).0, (laid_out desc valid).most))
     (λ (past : length (slots desc) ≤ p). let none : None ≡ Some j = sym (get_or_past (slots desc) p None past) ∙ here in absurd cc)

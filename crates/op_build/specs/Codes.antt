@@ -13,7 +13,7 @@ use Rattle.op_list.specs.Types.{is_whole_type}
 use Rattle.op_list.specs.Typing.{stage_from}
 use Rattle.op_list.specs.Values.{four, no_values}
 use Rattle.op_list.specs.Run.{run_from}
-use Rattle.op_build.specs.Shape.{element_type}
+use Rattle.op_build.specs.ElementType.{element_type}
 use Rattle.op_build.specs.Recipe.{decode, missing_code}
 
 -- the code of a channel: its component's, and that of a missing channel where the format has it not

@@ -6,7 +6,8 @@ use Rattle.pix_meaning.specs.declared.pair.Pair.{Pair}
 use Rattle.pix_meaning.specs.Pairs.{IsValidPair}
 use Rattle.op_list.specs.Types.{bytes, is_whole_type}
 use Rattle.op_list.specs.Run.{read_length}
-use Rattle.op_build.specs.Shape.{element_type, element_counts}
+use Rattle.pix_desc.specs.Shape.{element_counts}
+use Rattle.op_build.specs.ElementType.{element_type}
 use Rattle.op_build.specs.Recipe.{recipe}
 
 -- a list reads whole frames of the source format

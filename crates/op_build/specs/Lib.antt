@@ -1,4 +1,4 @@
-pub mod Shape
+pub mod ElementType
 pub mod Recipe
 pub mod Codes
 pub mod Meaning

@@ -9,7 +9,8 @@ use Rattle.op_list.specs.declared.op.Op.{Op}
 use Rattle.op_list.specs.Values.{four}
 use Rattle.op_list.specs.Pixel.{element_of}
 use Rattle.op_list.specs.Run.{run, checked_run}
-use Rattle.op_build.specs.Shape.{element_type, element_counts}
+use Rattle.pix_desc.specs.Shape.{element_counts}
+use Rattle.op_build.specs.ElementType.{element_type}
 use Rattle.op_build.specs.Recipe.{recipe}
 use Rattle.op_build.specs.BoundClasses.{side_class, side_classes, IsOneOf}
 

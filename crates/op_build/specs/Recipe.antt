@@ -16,7 +16,8 @@ use Rattle.op_list.specs.declared.op.Op.{Op}
 use Rattle.op_list.specs.declared.op.Op.TheVariants.{Read, Write, SwapBytes, Unpack, Pack, Clear, LeftShift, RightShift, Swizzle, Convert, Dither, Linear, Scale, Min, Max}
 use Rattle.op_list.specs.Types.{bits}
 use Rattle.op_list.specs.Values.{four}
-use Rattle.op_build.specs.Shape.{element_type, element_counts, is_swapped, field_widths, slots, position_of}
+use Rattle.pix_desc.specs.Shape.{element_counts, field_widths, slots, position_of}
+use Rattle.op_build.specs.ElementType.{element_type, is_swapped}
 
 -- an operation, where there is need of it
 abbrev pub only_if : Bool → Op → List Op

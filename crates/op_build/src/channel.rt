@@ -3,8 +3,7 @@ ghost use Rattle.std.specs.Prelude.{◌≡◌};
 ghost use Rattle.pix_meaning.specs.Pairs.{has_channel, component_count, component_at, channel_of, depth_of};
 ghost use Rattle.op_build.specs.Recipe.{channel_depth};
 
-use crate::word::component_of;
-use pix_desc::Desc;
+use pix_desc::{Desc, component_of};
 use pix_meaning::is_rgb;
 
 /// Whether the format has a channel.

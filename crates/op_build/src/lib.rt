@@ -7,21 +7,18 @@
 mod channel;
 mod code_values;
 mod colour;
-mod elements;
+mod element_kind;
 mod fault;
 mod laws;
 mod limits;
 mod list;
-mod numbers;
 mod places;
 mod rows;
-mod shape;
 mod sources;
 mod split;
 mod steps;
 #[cfg(test)]
 mod tests;
-mod word;
 
 pub use fault::BuildFault;
 pub use laws::{
@@ -30,4 +27,4 @@ pub use laws::{
     recipe_reads_frames,
 };
 pub use list::build;
-pub use shape::{element_counts, element_type};
+pub use element_kind::element_type;

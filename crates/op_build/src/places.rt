@@ -1,13 +1,12 @@
 // From the numbers of a pixel to its channels, and back.
 ghost use Rattle.std.specs.Prelude.{◌≡◌, ◌<◌, None, slice_index_or};
 ghost use Rattle.pix_desc.specs.Layouts.{IsValid};
-ghost use Rattle.op_build.specs.Shape.{slots};
+ghost use Rattle.pix_desc.specs.Shape.{slots};
 ghost use Rattle.op_build.specs.Recipe.{source_of, to_places, spare_zero, spare_zeros};
 
 use crate::channel::channel_of;
-use crate::numbers::{has_slot, slot_at};
 use frac_math::Frac;
-use pix_desc::Desc;
+use pix_desc::{Desc, has_slot, slot_at};
 
 // The channel that goes to a place, or what stands there where it is spare.
 fn to_place(desc: &Desc, p: u8) -> u8

@@ -3,22 +3,20 @@ ghost use Rattle.std.specs.Prelude.{◌≡◌, true, false, if◌then◌else◌,
 ghost use Rattle.pix_desc.specs.Component.{component_of};
 ghost use Rattle.pix_desc.specs.Layouts.{IsValid, is_elements};
 ghost use Rattle.pix_meaning.specs.Pairs.{IsValidPair};
-ghost use Rattle.op_build.specs.Shape.{field_widths};
+ghost use Rattle.pix_desc.specs.Shape.{field_widths};
 ghost use Rattle.op_build.specs.Recipe.{split, decode, convert, encode};
 ghost use Rattle.op_build.specs.Steps.{step_if, operations};
 
 use crate::code_values::{from_codes, to_codes};
+use crate::element_kind::{element_type, is_swapped};
 use crate::limits::{greatest_codes, least_codes};
-use crate::numbers::field_widths;
 use crate::places::{spare_zeros, to_places};
 use crate::rows::over_three;
-use crate::shape::{element_counts, element_type, is_elements, is_swapped};
 use crate::sources::{from_places, missing_codes};
 use crate::split::{left_shift, right_shift};
-use crate::word::component_of;
 use colour_matrix::{from_rgb, to_rgb};
 use op_list::{Op, PixType};
-use pix_desc::Desc;
+use pix_desc::{Desc, component_of, element_counts, field_widths, is_elements};
 use pix_meaning::{Pair, is_rgb};
 
 // An operation, where there is need of it.

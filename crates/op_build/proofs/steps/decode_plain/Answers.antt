@@ -1,7 +1,8 @@
 use Rattle.std.proofs.Common.{[], ◌∷◌, false, Some, ◌∙◌, sym, refl, ap}
 use Rattle.op_list.specs.declared.op.Op.TheVariants.{Read, SwapBytes, Clear, Swizzle}
 use Rattle.op_build.specs.Recipe.{split, from_places, missing_codes}
-use Rattle.op_build.specs.Shape.{element_type, element_counts, is_swapped}
+use Rattle.pix_desc.specs.Shape.{element_counts}
+use Rattle.op_build.specs.ElementType.{element_type, is_swapped}
 use Rattle.op_build.proofs.DecodePlain.{decode_is}
 use Rattle.op_build.proofs.StepLists.{operations-between}
 use Rattle.op_build.proofs.steps.decode_plain.Goals as goal

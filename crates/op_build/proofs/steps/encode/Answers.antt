@@ -1,7 +1,8 @@
 use Rattle.std.proofs.Common.{[], ◌∷◌, Some, refl}
 use Rattle.op_list.specs.declared.op.Op.TheVariants.{SwapBytes, Write}
 use Rattle.op_build.specs.Recipe.{encode}
-use Rattle.op_build.specs.Shape.{is_swapped, element_type, element_counts}
+use Rattle.pix_desc.specs.Shape.{element_counts}
+use Rattle.op_build.specs.ElementType.{is_swapped, element_type}
 use Rattle.op_build.proofs.StepLists.{operations-if}
 use Rattle.op_build.proofs.steps.encode.Goals as goal
 
