@@ -11,11 +11,12 @@ use Rattle.pix_meaning.proofs.PixelLaws.{source_below}
 use Rattle.op_list.specs.declared.position.PixelPosition.{PixelPosition}
 use Rattle.op_list.specs.Values.{four, number}
 use Rattle.op_list.specs.Run.{run, checked_run}
-use Rattle.op_build.specs.Meaning.{CheckedIsThere}
-use Rattle.op_build.specs.Recipe.{channel_depth, recipe}
-use Rattle.op_build.specs.Codes.{code_of}
-use Rattle.op_build.specs.BoundClasses.{side_class, side_classes, IsOneOf}
-use Rattle.op_build.proofs.Codes.{code_of-there, code_of-missing, missing_code-below}
+use Rattle.op_build.specs.Meaning.{CheckedRunSucceeds}
+use Rattle.pix_meaning.specs.Channels.{channel_depth}
+use Rattle.op_build.specs.Recipe.{recipe}
+use Rattle.pix_meaning.specs.Channels.{code_of}
+use Rattle.op_build.specs.SideClasses.{side_class, side_classes, IsOneOf}
+use Rattle.pix_meaning.proofs.ChannelCodes.{code_of-there, code_of-missing, missing_code-below}
 use Rattle.op_build.proofs.Decode.{decode_gives}
 use Rattle.op_build.proofs.BoundRuns.{recipe_is_there}
 
@@ -42,5 +43,5 @@ checked_run_is_there pair frame width rows x row y valid from to bytes =
     (recipe_is_there pair frame place (code_of pair.from.desc width rows frame x row) from to valid.dither (decode_gives pair.from.desc frame place valid.from bytes)
     (λ c listed. code_below pair.from.desc width rows frame x row c valid.from bytes))
 
-pub checked_is_there : (pair : Pair) → CheckedIsThere pair
+pub checked_is_there : (pair : Pair) → CheckedRunSucceeds pair
 checked_is_there pair = λ valid from to frame width rows x row y bytes. checked_run_is_there pair frame width rows x row y valid from to bytes

@@ -25,8 +25,9 @@ use Rattle.op_list.specs.Run.{run_from, checked_run_from}
 use Rattle.op_list.proofs.Runs.{forms_nothing, unformed_run, checked_both}
 use Rattle.pix_desc.specs.Shape.{element_counts, field_widths}
 use Rattle.op_build.specs.ElementType.{element_type, is_swapped}
-use Rattle.op_build.specs.Recipe.{only_if, channel_depth, from_places, missing_codes, to_places, spare_zeros, decode, convert, encode, recipe}
-use Rattle.op_build.specs.BoundClasses.{side_class, side_classes, IsOneOf}
+use Rattle.pix_meaning.specs.Channels.{channel_depth}
+use Rattle.op_build.specs.Recipe.{only_if, from_places, missing_codes, to_places, spare_zeros, decode, convert, encode, recipe}
+use Rattle.op_build.specs.SideClasses.{side_class, side_classes, IsOneOf}
 use Rattle.op_build.proofs.BoundPairs.{converting_is_there}
 
 -- ---- decoding and encoding

@@ -26,9 +26,10 @@ use Rattle.op_list.specs.Run.{run_from}
 use Rattle.op_list.specs.Typing.{stage_after, stage_from}
 use Rattle.op_list.proofs.Runs.{run_from-append}
 use Rattle.op_list.proofs.Typed.{stage_from-append}
-use Rattle.op_build.specs.Recipe.{only_if, channel_depth, channel_levels, over_three, from_codes, to_codes, limits, convert}
-use Rattle.op_build.specs.Codes.{code_of}
-use Rattle.op_build.proofs.ConvertLevels.{levels_there, code_means}
+use Rattle.pix_meaning.specs.Channels.{channel_depth, channel_levels}
+use Rattle.op_build.specs.Recipe.{only_if, over_three, from_codes, to_codes, limits, convert}
+use Rattle.pix_meaning.specs.Channels.{code_of}
+use Rattle.pix_meaning.proofs.ChannelLevels.{levels_there, code_means}
 use Rattle.op_build.proofs.ConvertSteps.{same_fractions, from_codes-applied, to_codes-applied, from_codes-stage, to_codes-stage, to_rgb-run, from_rgb-run, only_if-stage}
 use Rattle.op_build.proofs.ConvertClamp.{floor_limited}
 

@@ -22,7 +22,8 @@ use Rattle.op_list.specs.Values.{four}
 use Rattle.op_list.specs.Apply.{apply}
 use Rattle.op_list.specs.Run.{run_from}
 use Rattle.op_list.specs.Typing.{stage_after, stage_from}
-use Rattle.op_build.specs.Recipe.{only_if, channel_levels, are_plain, diagonal, over_three, from_codes, to_codes}
+use Rattle.pix_meaning.specs.Channels.{channel_levels}
+use Rattle.op_build.specs.Recipe.{only_if, are_plain, diagonal, over_three, from_codes, to_codes}
 
 pub same_fractions : (a b c d e f g h : ℚ) → a ≡ e → b ≡ f → c ≡ g → d ≡ h → Fractions (a ∷ b ∷ c ∷ d ∷ []) ≡ Fractions (e ∷ f ∷ g ∷ h ∷ [])
 same_fractions a b c d e f g h p q r s = λ i. Fractions (p i ∷ q i ∷ r i ∷ s i ∷ [])

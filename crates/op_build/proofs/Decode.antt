@@ -13,7 +13,8 @@ use Rattle.op_list.specs.Run.{run_from}
 use Rattle.op_list.specs.Typing.{stage_from}
 use Rattle.op_build.specs.Recipe.{decode}
 use Rattle.op_build.specs.ElementType.{element_type}
-use Rattle.op_build.specs.Codes.{code_of, decoded_type, GivesCodes, IsWholeTyped}
+use Rattle.pix_meaning.specs.Channels.{code_of}
+use Rattle.op_build.specs.Codes.{decoded_type, GivesCodes, IsWholeTyped}
 use Rattle.op_build.proofs.DecodePlain.{decode_plain, stage_plain}
 use Rattle.op_build.proofs.DecodePalette.{decode_palette, stage_palette}
 use Rattle.op_build.proofs.ElementTypes.{has_type}

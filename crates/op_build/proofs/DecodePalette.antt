@@ -24,12 +24,13 @@ use Rattle.op_list.specs.Pixel.{number_at, palette_colours, pixel_count, pixel_n
 use Rattle.op_list.specs.Apply.{cleared_number}
 use Rattle.op_list.specs.Run.{run_from}
 use Rattle.op_list.specs.Typing.{stage_from, stage_after}
-use Rattle.op_build.specs.Recipe.{decode, missing_code, missing_codes, split, from_places}
+use Rattle.pix_meaning.specs.Channels.{missing_code}
+use Rattle.op_build.specs.Recipe.{decode, missing_codes, split, from_places}
 use Rattle.pix_desc.specs.Shape.{element_counts}
 use Rattle.op_build.specs.ElementType.{element_type, is_swapped}
 use Rattle.op_build.proofs.ByteNumbers.{in_order}
-use Rattle.op_build.proofs.Codes.{code_of-there}
-use Rattle.op_build.specs.Codes.{code_of}
+use Rattle.pix_meaning.proofs.ChannelCodes.{code_of-there}
+use Rattle.pix_meaning.specs.Channels.{code_of}
 use Rattle.op_build.proofs.DecodeRuns.{decode_by, run_palette}
 use Rattle.op_build.proofs.ElementStarts.{word_begins}
 use Rattle.op_build.proofs.FieldValues.{element_field}

@@ -26,8 +26,9 @@ use Rattle.pix_desc.specs.Shape.{element_bytes, element_counts, element_index, f
 use Rattle.op_build.specs.ElementType.{element_type, is_swapped}
 use Rattle.op_build.specs.Recipe.{decode, split, from_places, missing_codes}
 use Rattle.op_build.proofs.ByteNumbers.{in_order, one_byte_in_order}
-use Rattle.op_build.proofs.Codes.{code_of-there, code_of-missing, plain_component, channel_listed, in_channels}
-use Rattle.op_build.specs.Codes.{code_of}
+use Rattle.pix_meaning.proofs.ChannelCodes.{code_of-there, code_of-missing, plain_component, channel_listed}
+use Rattle.op_build.proofs.Codes.{in_channels}
+use Rattle.pix_meaning.specs.Channels.{code_of}
 use Rattle.op_build.proofs.DecodeRuns.{decode_by, ordered_element, run_shifts, run_fields, stage_shifts, stage_fields}
 use Rattle.pix_desc.proofs.ElementSlots.{HasElements, element_index-below}
 use Rattle.op_build.proofs.ElementStarts.{element_of_at, element_begins, word_begins}

@@ -20,8 +20,9 @@ use Rattle.op_list.specs.Typing.{may_follow, are_good, are_counts, are_typed, al
 use Rattle.op_list.proofs.Typed.{typed_from, typed_none}
 use Rattle.pix_desc.specs.Shape.{element_counts, field_widths, position_of}
 use Rattle.op_build.specs.ElementType.{element_type, is_swapped}
-use Rattle.op_build.specs.Recipe.{decode, only_if, from_places, missing_code, missing_codes}
-use Rattle.op_build.proofs.Codes.{missing_code-below, channel_listed}
+use Rattle.pix_meaning.specs.Channels.{missing_code}
+use Rattle.op_build.specs.Recipe.{decode, only_if, from_places, missing_codes}
+use Rattle.pix_meaning.proofs.ChannelCodes.{missing_code-below, channel_listed}
 use Rattle.op_build.proofs.DecodeRuns.{decode_by}
 use Rattle.op_build.proofs.DecodePlain.{decode_is, shifts, split_elements, split_word}
 use Rattle.op_build.proofs.DecodePalette as Palette

@@ -14,7 +14,7 @@ use Rattle.op_list.specs.declared.op.Op.{Op}
 use Rattle.op_list.specs.declared.op.Op.TheVariants.{Write, SwapBytes, Pack, Clear, LeftShift, Swizzle, Convert}
 use Rattle.op_list.specs.Run.{read_length}
 use Rattle.op_list.specs.Typing.{are_counts, are_in_front, is_write, ends_with_write}
-use Rattle.op_build.specs.Frames.{ReadsFrames, FillsFrames}
+use Rattle.op_build.specs.Frames.{ReadsFrames, WritesFrames, FillsFrames}
 use Rattle.op_build.specs.Recipe.{decode, convert, encode, recipe, only_if, split, to_places, spare_zeros}
 use Rattle.pix_desc.specs.Shape.{element_bytes, element_counts, field_widths}
 use Rattle.op_build.specs.ElementType.{element_type, is_swapped}
@@ -24,7 +24,9 @@ use Rattle.op_build.proofs.DecodePlain as plain
 use Rattle.pix_desc.proofs.ElementSlots.{HasElements}
 use Rattle.op_build.proofs.ElementStarts.{plane_start_is}
 use Rattle.pix_desc.proofs.PlaneSteps.{component_in}
-use Rattle.op_build.proofs.ReadLengths.{elements_length, palette_length}
+use Rattle.op_list.specs.Run.{write_length}
+use Rattle.op_list.proofs.Wholes.{ends_with_write-append, write_length-append}
+use Rattle.op_build.proofs.ReadLengths.{elements_length, palette_length, written_length}
 use Rattle.pix_desc.proofs.PixelSlots.{first_size, has_layout}
 use Rattle.op_build.proofs.ElementTypes.{has_type, element_counts_are_good}
 use Rattle.pix_desc.proofs.WordShape.{HasWord}
@@ -125,18 +127,31 @@ reads_frames pair = λ valid width rows.
 
 -- ---- the last operation
 
-last_of : (ops : List Op) (op : Op) → ends_with_write (ops ++ op ∷ []) ≡ is_write op
-unfolding ends_with_write
-last_of [] op = refl
-last_of (first ∷ []) op = refl
-last_of (first ∷ next ∷ ops) op = last_of (next ∷ ops) op
-
-pub is_whole : (pair : Pair) → ends_with_write (recipe pair) ≡ true
-unfolding recipe encode
-is_whole pair =
+-- all operations of the recipe but the last
+abbrev before_write : Pair → List Op
+before_write pair =
     let desc = pair.to.desc in
-    let write = Write (element_type desc) (element_counts desc) in
+    decode pair.from.desc ++ convert pair ++ (Convert (element_type desc) false ∷ Swizzle (to_places desc) ∷ Clear (spare_zeros desc)
+    ∷ (if is_elements desc then LeftShift (component_of desc 0).shift else Pack (field_widths desc)) ∷ only_if (is_swapped desc) SwapBytes)
+
+abbrev last_write : Pair → Op
+last_write pair = Write (element_type pair.to.desc) (element_counts pair.to.desc)
+
+recipe_ends : (pair : Pair) → before_write pair ++ last_write pair ∷ [] ≡ recipe pair
+unfolding recipe encode
+recipe_ends pair =
+    let desc = pair.to.desc in
     let front = Convert (element_type desc) false ∷ Swizzle (to_places desc) ∷ Clear (spare_zeros desc)
     ∷ (if is_elements desc then LeftShift (component_of desc 0).shift else Pack (field_widths desc)) ∷ only_if (is_swapped desc) SwapBytes in
-    ap ends_with_write (sym (append_assoc (decode pair.from.desc ++ convert pair) front (write ∷ [])))
-    ∙ last_of (decode pair.from.desc ++ convert pair ++ front) write
+    append_assoc (decode pair.from.desc ++ convert pair) front (last_write pair ∷ [])
+
+pub is_whole : (pair : Pair) → ends_with_write (recipe pair) ≡ true
+unfolding ends_with_write
+is_whole pair = ap ends_with_write (sym (recipe_ends pair)) ∙ ends_with_write-append (before_write pair) (last_write pair) []
+
+pub writes_frames : (pair : Pair) → WritesFrames pair
+writes_frames pair = λ valid none width rows.
+    ap (λ ops. write_length ops width rows) (sym (recipe_ends pair))
+    ∙ write_length-append (before_write pair) (last_write pair) [] width rows
+    ∙ written_length (element_type pair.to.desc) (element_counts pair.to.desc) width rows
+    ∙ sym ((fills_frames pair.to.desc valid.to none).size width rows)

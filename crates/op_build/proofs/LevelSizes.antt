@@ -21,9 +21,9 @@ use Rattle.pix_meaning.specs.declared.pair.Side.{Side}
 use Rattle.pix_meaning.specs.Pairs.{class_of}
 use Rattle.op_range.specs.FractionBounds.{HasBound, bound}
 use Rattle.op_build.specs.LevelSizes.{AreSmall}
-use Rattle.op_build.specs.Recipe.{channel_levels, channel_depth}
+use Rattle.pix_meaning.specs.Channels.{channel_levels, channel_depth}
 use Rattle.op_range.proofs.FractionBounds.{nat_bound, raised, numerator_most, denominator_most}
-use Rattle.op_build.proofs.Depths.{channel_depth_small, channel_depth_some}
+use Rattle.pix_meaning.proofs.ChannelDepths.{channel_depth_small, channel_depth_some}
 
 -- ---- the levels
 power_small : (depth : ℕ) → depth ≤ 16 → 2 ^ depth ≤ 2 ^ 16

@@ -6,7 +6,6 @@ pub mod DecodeRuns
 pub mod DecodePlain
 pub mod DecodePalette
 pub mod Decode
-pub mod ConvertLevels
 pub mod ConvertSteps
 pub mod ConvertClamp
 pub mod Convert
@@ -20,7 +19,6 @@ pub mod EncodeWord
 pub mod Encode
 pub mod DecodeTyped
 pub mod RecipeTyped
-pub mod Depths
 pub mod BoundClasses
 pub mod LevelSizes
 pub mod Means
@@ -32,3 +30,4 @@ pub mod StepLists
 pub mod ReadLengths
 pub mod Frames
 pub mod ElementTypes
+pub mod ClassTests

@@ -219,3 +219,6 @@ recipe_typed pair valid =
 
 pub recipe_is_list : (pair : Pair) → IsValidPair pair → IsOpList (recipe pair)
 recipe_is_list pair valid = let is = recipe_typed pair valid in record { typed = is.typed; size = omega (arith, is.size) }
+
+pub recipe_is_short : (pair : Pair) → IsValidPair pair → length (recipe pair) ≤ 20
+recipe_is_short pair valid = (recipe_typed pair valid).size

@@ -12,7 +12,7 @@ use Rattle.op_list.specs.Run.{run, checked_run}
 use Rattle.pix_desc.specs.Shape.{element_counts}
 use Rattle.op_build.specs.ElementType.{element_type}
 use Rattle.op_build.specs.Recipe.{recipe}
-use Rattle.op_build.specs.BoundClasses.{side_class, side_classes, IsOneOf}
+use Rattle.op_build.specs.SideClasses.{side_class, side_classes, IsOneOf}
 
 -- the elements of a pixel of a frame, and 0 for those that it has not
 abbrev pub elements_at : Desc → List ℕ → ℕ → ℕ → ℕ → ℕ → List ℕ
@@ -32,7 +32,7 @@ MeansItsTarget pair = IsValidPair pair → pair.to.desc.palette ≡ false → Me
 
 -- Where both sides are of the classes that the formats of the table and the named matrices give, no checked step of the list is missing: the checked
 -- evaluation of a pixel is the exact one.
-abbrev pub CheckedIsThere : Pair → Type 0
-CheckedIsThere pair = IsValidPair pair → IsOneOf (side_class pair.from) side_classes → IsOneOf (side_class pair.to) side_classes
+abbrev pub CheckedRunSucceeds : Pair → Type 0
+CheckedRunSucceeds pair = IsValidPair pair → IsOneOf (side_class pair.from) side_classes → IsOneOf (side_class pair.to) side_classes
     → (frame : List ℕ) (width rows x row y : ℕ) → All (λ byte. byte < 256) frame
     → checked_run (recipe pair) frame width rows x row y ≡ Some (run (recipe pair) frame width rows x row y)

@@ -5,12 +5,12 @@ use Rattle.pix_desc.specs.declared.desc.Desc.{Desc}
 use Rattle.pix_desc.specs.Component.{component_of}
 use Rattle.pix_desc.specs.Layouts.{is_elements}
 use Rattle.colour_matrix.specs.declared.class.Levels.{Levels}
-use Rattle.colour_matrix.specs.Levels.{levels}
 use Rattle.colour_matrix.specs.Values.{coefficient, row_at}
 use Rattle.colour_matrix.specs.Colour.{to_rgb_rows, from_rgb_rows}
 use Rattle.pix_meaning.specs.declared.pair.Side.{Side}
 use Rattle.pix_meaning.specs.declared.pair.Pair.{Pair}
-use Rattle.pix_meaning.specs.Pairs.{is_rgb, has_channel, component_at, channel_of, class_of, depth_of}
+use Rattle.pix_meaning.specs.Pairs.{is_rgb, has_channel, component_at, channel_of}
+use Rattle.pix_meaning.specs.Channels.{channel_depth, channel_levels, missing_code}
 use Rattle.op_list.specs.declared.types.PixType.TheVariants.{U8, Rat}
 use Rattle.op_list.specs.declared.op.Op.{Op}
 use Rattle.op_list.specs.declared.op.Op.TheVariants.{Read, Write, SwapBytes, Unpack, Pack, Clear, LeftShift, RightShift, Swizzle, Convert, Dither, Linear, Scale, Min, Max}
@@ -22,10 +22,6 @@ use Rattle.op_build.specs.ElementType.{element_type, is_swapped}
 -- an operation, where there is need of it
 abbrev pub only_if : Bool → Op → List Op
 only_if needed op = if needed then op ∷ [] else []
-
--- the depth by which a channel goes that the format has not: that of component 0
-abbrev pub channel_depth : Desc → ℕ → ℕ
-channel_depth desc c = if has_channel desc c then depth_of desc (component_at desc c) else depth_of desc 0
 
 -- ---- from the elements of a source pixel to the codes of its channels
 
@@ -41,10 +37,6 @@ split desc =
 abbrev pub from_places : Desc → List ℕ
 from_places desc = four (λ c. if has_channel desc c then position_of desc (component_at desc c) else c)
 
--- a missing chroma is in the middle of the codes, and a missing alpha is the greatest code
-abbrev pub missing_code : Desc → ℕ → ℕ
-missing_code desc c = if nat_eq c 3 then 2 ^ depth_of desc 0 - 1 else 2 ^ (depth_of desc 0 - 1)
-
 abbrev pub missing_codes : Desc → List (Option ℚ)
 missing_codes desc = four (λ c. if has_channel desc c then None else Some (nat (missing_code desc c)))
 
@@ -55,9 +47,6 @@ decode desc =
     ∷ only_if (is_swapped desc) SwapBytes ++ split desc ++ Swizzle (from_places desc) ∷ Clear (missing_codes desc) ∷ []
 
 -- ---- from the codes of a source pixel to those of a target pixel, not yet rounded
-
-abbrev pub channel_levels : Side → ℕ → Levels
-channel_levels side c = levels (class_of side.desc c) (channel_depth side.desc c) side.range
 
 -- all four scales are equal, and all bases are 0
 abbrev pub are_plain : (ℕ → Levels) → Bool

@@ -4,12 +4,10 @@
 //! rows at every pixel, and that its checked evaluation always answers for the classes of the table. `build` makes the list.
 #![tactic(auto)]
 
-mod channel;
 mod code_values;
-mod colour;
 mod element_kind;
 mod fault;
-mod laws;
+pub mod laws;
 mod limits;
 mod list;
 mod places;
@@ -21,10 +19,5 @@ mod steps;
 mod tests;
 
 pub use fault::BuildFault;
-pub use laws::{
-    checked_recipe_is_exact, decoding_gives_codes, decoding_is_whole, elements_fill_frames,
-    limits_before_the_floor, recipe_is_list, recipe_is_whole, recipe_means_target,
-    recipe_reads_frames,
-};
 pub use list::build;
 pub use element_kind::element_type;

@@ -4,9 +4,9 @@ ghost use Rattle.pix_desc.specs.Layouts.{IsValid};
 ghost use Rattle.pix_desc.specs.Shape.{slots};
 ghost use Rattle.op_build.specs.Recipe.{source_of, to_places, spare_zero, spare_zeros};
 
-use crate::channel::channel_of;
 use frac_math::Frac;
 use pix_desc::{Desc, has_slot, slot_at};
+use pix_meaning::channel_of;
 
 // The channel that goes to a place, or what stands there where it is spare.
 fn to_place(desc: &Desc, p: u8) -> u8

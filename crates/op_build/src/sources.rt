@@ -4,11 +4,12 @@ ghost use Rattle.frac_math.specs.Fraction.{nat};
 ghost use Rattle.pix_desc.specs.Layouts.{IsValid};
 ghost use Rattle.pix_meaning.specs.Pairs.{has_channel, component_at};
 ghost use Rattle.pix_desc.specs.Shape.{position_of};
-ghost use Rattle.op_build.specs.Recipe.{from_places, missing_code, missing_codes};
+ghost use Rattle.pix_meaning.specs.Channels.{missing_code};
+ghost use Rattle.op_build.specs.Recipe.{from_places, missing_codes};
 
-use crate::channel::{component_at, depth_of, has_channel};
 use frac_math::Frac;
 use pix_desc::{Desc, position_of};
+use pix_meaning::{component_at, depth_of, has_channel};
 
 /// 2^exponent.
 pub fn power(exponent: u8) -> u32

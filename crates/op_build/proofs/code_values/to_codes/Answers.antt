@@ -1,7 +1,8 @@
 use Rattle.std.proofs.Common.{◌≡◌, ◌∙◌, false, sym, refl}
 use Rattle.pix_meaning.specs.declared.pair.Side.{Side}
 use Rattle.op_list.specs.declared.op.Op.TheVariants.{Linear}
-use Rattle.op_build.specs.Recipe.{channel_levels, diagonal, to_codes}
+use Rattle.pix_meaning.specs.Channels.{channel_levels}
+use Rattle.op_build.specs.Recipe.{diagonal, to_codes}
 use Rattle.op_build.specs.Recipe.{are_plain}
 use Rattle.op_build.proofs.code_values.to_codes.Goals as goal
 

@@ -1,5 +1,5 @@
 use Rattle.std.proofs.Common.{◌∙◌, sym, arith}
-use Rattle.op_build.proofs.Codes.{channel_listed}
+use Rattle.pix_meaning.proofs.ChannelCodes.{channel_listed}
 use Rattle.op_build.proofs.sources.from_place.Goals as goal
 
 pub position_of-requires-clause-listed : goal.position_of-requires-clause-listed

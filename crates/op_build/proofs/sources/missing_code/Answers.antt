@@ -1,5 +1,5 @@
 use Rattle.std.proofs.Common.{arith}
-use Rattle.op_build.proofs.Depths.{first_depth_small}
+use Rattle.pix_meaning.proofs.ChannelDepths.{first_depth_small}
 use Rattle.op_build.proofs.sources.missing_code.Goals as goal
 
 pub power-requires : goal.power-requires

@@ -3,7 +3,8 @@ use Rattle.frac_math.specs.Fraction.{nat}
 use Rattle.colour_matrix.specs.Colour.{to_rgb_rows, from_rgb_rows}
 use Rattle.pix_meaning.specs.Pairs.{is_rgb}
 use Rattle.op_list.specs.declared.op.Op.TheVariants.{Dither, Linear, Min, Max}
-use Rattle.op_build.specs.Recipe.{convert, to_codes, over_three, limits, channel_depth}
+use Rattle.pix_meaning.specs.Channels.{channel_depth}
+use Rattle.op_build.specs.Recipe.{convert, to_codes, over_three, limits}
 use Rattle.op_build.proofs.StepLists.{operations-if-if}
 use Rattle.op_build.proofs.steps.convert.Goals as goal
 

@@ -16,9 +16,9 @@ use Rattle.pix_meaning.specs.declared.pair.Side.{Side}
 use Rattle.pix_meaning.specs.Pairs.{is_rgb, has_channel, component_at, class_of, depth_of, levels_of}
 use Rattle.pix_meaning.specs.Values.{source_value}
 use Rattle.pix_meaning.proofs.Passing.{value_there}
-use Rattle.op_build.specs.Recipe.{channel_depth, channel_levels, missing_code}
-use Rattle.op_build.specs.Codes.{code_of}
-use Rattle.op_build.proofs.Codes.{code_of-there, code_of-missing, depth_positive}
+use Rattle.pix_meaning.specs.Channels.{channel_depth, channel_levels, missing_code}
+use Rattle.pix_meaning.specs.Channels.{code_of}
+use Rattle.pix_meaning.proofs.ChannelCodes.{code_of-there, code_of-missing, depth_positive}
 
 -- ---- missing codes
 

@@ -1,13 +1,13 @@
-// The levels of the channels of a side, and rows over the colours.
+// The levels of the channels of a side.
 ghost use Rattle.std.specs.Prelude.{◌≡◌, ◌<◌};
 ghost use Rattle.pix_desc.specs.Layouts.{IsValid};
 ghost use Rattle.pix_meaning.specs.Pairs.{class_of};
-ghost use Rattle.op_build.specs.Recipe.{channel_levels};
+ghost use Rattle.pix_meaning.specs.Channels.{channel_levels};
 
-use crate::channel::channel_depth;
+use crate::channel::{channel_depth, is_rgb};
+use crate::pair::Side;
 use colour_matrix::{Class, Levels, levels};
 use pix_desc::Desc;
-use pix_meaning::{Side, is_rgb};
 
 /// What the values of a channel are.
 pub fn class_of(desc: &Desc, c: u8) -> Class

@@ -6,8 +6,8 @@ use Rattle.pix_desc.specs.Component.{component_of}
 use Rattle.pix_desc.specs.Layouts.{IsValid}
 use Rattle.pix_desc.proofs.Valid.{laid_out}
 use Rattle.pix_meaning.specs.Pairs.{has_channel, component_at, depth_of}
-use Rattle.op_build.specs.Recipe.{channel_depth}
-use Rattle.op_build.proofs.Codes.{channel_listed}
+use Rattle.pix_meaning.specs.Channels.{channel_depth}
+use Rattle.pix_meaning.proofs.ChannelCodes.{channel_listed}
 
 -- a component that is there has at most 16 bits, and an entry of a palette has 8
 depth_small : (desc : Desc) (j : ℕ) → IsValid desc → (desc.palette ≡ false → j < desc.count) → depth_of desc j ≤ 16
