@@ -45,7 +45,9 @@ test_then (Some x) f = f x
 
 unfoldable pub target_fits : List FractionBound → SideClass → Bool
 target_fits bounds to =
-    test_then (bounds_from (target_rows_ops to) bounds) (λ values. test_then (bounds_after (to_codes_by (class_levels to)) values) (λ codes. is_there (bounds_after (Dither 4) codes)))
+    test_then (bounds_from (target_rows_ops to) bounds)
+    (λ values. test_then (bounds_after (to_codes_by (class_levels to)) values) (λ codes. is_there (bounds_after (Dither 4) codes)))
 
 unfoldable pub source_fits : List SideClass → SideClass → Bool
-source_fits targets from = test_then (bounds_from (source_ops from) (code_bounds (slice_index from.depths))) (λ bounds. list_all (target_fits bounds) targets)
+source_fits targets from =
+    test_then (bounds_from (source_ops from) (code_bounds (slice_index from.depths))) (λ bounds. list_all (target_fits bounds) targets)

@@ -10,23 +10,27 @@ use Rattle.op_list.specs.declared.values.Values.TheVariants.{Numbers}
 use Rattle.op_list.specs.Values.{four}
 use Rattle.op_list.specs.Apply.{cleared_number, cleared, swizzled}
 use Rattle.op_list.proofs.Four.{get_or-four, same_four}
-use Rattle.op_build.specs.Recipe.{from_places, missing_codes}
+use Rattle.op_build.specs.Recipe.{channel_slots, missing_codes}
 
--- values that are taken from the components' places, with the codes of missing channels in between
+-- values that are taken from the components' positions, with the codes of missing channels in between
 pub in_channels : (desc : Desc) (values codes : ℕ → ℕ)
-    → ((c : ℕ) → c < 4 → has_channel desc c ≡ true → (position_of desc (component_at desc c) < 4) × (values (position_of desc (component_at desc c)) ≡ codes c))
+    → ((c : ℕ) → c < 4 → has_channel desc c ≡ true → (position_of desc (component_at desc c) < 4) × (values
+    (position_of desc (component_at desc c)) ≡ codes c))
     → ((c : ℕ) → has_channel desc c ≡ false → missing_code desc c ≡ codes c)
-    → cleared (missing_codes desc) (swizzled (from_places desc) (Numbers (four values))) ≡ Numbers (four codes)
+    → cleared (missing_codes desc) (swizzled (channel_slots desc) (Numbers (four values))) ≡ Numbers (four codes)
 in_channels desc values codes there missing =
     ap Numbers (same_four
-    (λ c. cleared_number (if has_channel desc c then None else Some (nat (missing_code desc c))) (get_or (four values) (if has_channel desc c then position_of desc (component_at desc c) else c) 0))
+    (λ c. cleared_number (if has_channel desc c then None else Some (nat (missing_code desc c)))
+    (get_or (four values) (if has_channel desc c then position_of desc (component_at desc c) else c) 0))
     codes
     (λ c below. ⊎_elim
     (λ (has : has_channel desc c ≡ true).
-    let place = there c below has in
-    ap (λ b. cleared_number (if b then None else Some (nat (missing_code desc c))) (get_or (four values) (if b then position_of desc (component_at desc c) else c) 0)) has
-    ∙ get_or-four values (position_of desc (component_at desc c)) 0 place.0 ∙ place.1)
+    let position = there c below has in
+    ap (λ b. cleared_number (if b then None else Some (nat (missing_code desc c)))
+    (get_or (four values) (if b then position_of desc (component_at desc c) else c) 0)) has
+    ∙ get_or-four values (position_of desc (component_at desc c)) 0 position.0 ∙ position.1)
     (λ (not_has : has_channel desc c ≡ false).
-    ap (λ b. cleared_number (if b then None else Some (nat (missing_code desc c))) (get_or (four values) (if b then position_of desc (component_at desc c) else c) 0)) not_has
+    ap (λ b. cleared_number (if b then None else Some (nat (missing_code desc c)))
+    (get_or (four values) (if b then position_of desc (component_at desc c) else c) 0)) not_has
     ∙ missing c not_has)
     (cases_Bool (has_channel desc c))))

@@ -1,5 +1,6 @@
 -- The type of a format's elements, and that their counts and the widths of fields are good arguments.
-use Rattle.std.proofs.Common.{◌≡◌, ℕ, ◌*◌, ◌/◌, ◌<◌, ◌≤◌, ◌⊎◌, ⊎_elim, inl, inr, true, false, not, ◌&&◌, if◌then◌else◌, nat_le, nat_eq, get_or, sym, refl, ap, ◌∙◌, arith}
+use Rattle.std.proofs.Common.{◌≡◌, ℕ, ◌*◌, ◌/◌, ◌<◌, ◌≤◌, ◌⊎◌, ⊎_elim, inl, inr, true, false, not, ◌&&◌, if◌then◌else◌, nat_le, nat_eq}
+use Rattle.std.proofs.Common.{get_or, sym, refl, ap, ◌∙◌, arith}
 use Rattle.std.proofs.lemmas.Bool.{and_parts, not-true}
 use Rattle.pix_desc.specs.declared.desc.Desc.{Desc}
 use Rattle.pix_desc.specs.Component.{component_of}
@@ -40,7 +41,8 @@ unfolding is_swapped
 swapped_of desc elem is = ap (λ e. desc.be && not (is_same e U8)) is
 
 type_is : (desc : Desc) (size : ℕ) (elem : PixType) → IsSize (element_bytes desc)
-    → element_bytes desc ≡ size → element_type desc ≡ elem → is_whole_type elem ≡ true → bits elem ≡ 8 * size → is_same elem U8 ≡ nat_eq size 1
+    → element_bytes desc ≡ size → element_type desc ≡ elem → is_whole_type elem ≡ true → bits elem ≡ 8 * size
+    → is_same elem U8 ≡ nat_eq size 1
     → (is_same elem U8 ≡ false → is_wide (Typed elem) ≡ true) → HasType desc
 type_is desc size elem sizes bytes_are is whole bits_are same wide = record {
   size = sizes;
@@ -48,7 +50,9 @@ type_is desc size elem sizes bytes_are is whole bits_are same wide = record {
   bits = omega (arith, ap bits is);
   bytes = omega (arith, ap bytes is);
   swapped = swapped_of desc elem is ∙ ap (λ b. desc.be && not b) (same ∙ ap (λ s. nat_eq s 1) (sym bytes_are));
-  wide = λ swapped. ap (λ e. is_wide (Typed e)) is ∙ wide (not-true (is_same elem U8) (and_parts desc.be (not (is_same elem U8)) (sym (swapped_of desc elem is) ∙ swapped)).1);
+  wide =
+      λ swapped. ap (λ e. is_wide (Typed e)) is
+      ∙ wide (not-true (is_same elem U8) (and_parts desc.be (not (is_same elem U8)) (sym (swapped_of desc elem is) ∙ swapped)).1);
 }
 
 pub has_type_of : (desc : Desc) → IsSize (element_bytes desc) → HasType desc
@@ -97,9 +101,10 @@ unfolding field_widths
 widths_are_good desc is =
     let width = λ (k : ℕ). (get_or (fields desc) k no_field).width in
     let bits = 8 * (component_of desc 0).step in
-    let some : 1 ≤ bits = 
+    let some : 1 ≤ bits =
     ⊎_elim (λ (e : (component_of desc 0).step ≡ 1). omega arith)
-    (λ more. ⊎_elim (λ (e : (component_of desc 0).step ≡ 2). omega arith) (λ (e : (component_of desc 0).step ≡ 4). omega arith) more) is.size in
+    (λ more. ⊎_elim (λ (e : (component_of desc 0).step ≡ 2). omega arith)
+    (λ (e : (component_of desc 0).step ≡ 4). omega arith) more) is.size in
     good_counts bits (field_widths desc)
     (in_front (width 0) (width 1) (width 2) (width 3) (some_before desc is 0) (some_before desc is 1) (some_before desc is 2))
     (omega (arith, sum-widths desc is)) (omega (arith, sum-widths desc is))

@@ -10,7 +10,7 @@ pub mod ConvertSteps
 pub mod ConvertClamp
 pub mod Convert
 pub mod EncodeRuns
-pub mod EncodePlaces
+pub mod SlotNumbers
 pub mod EncodeOrder
 pub mod EncodeBits
 pub mod EncodeElements

@@ -9,7 +9,8 @@ use Rattle.op_list.specs.Run.{read_length, write_length}
 use Rattle.op_list.specs.Types.{bytes}
 
 -- a list of three parts, of which the first begins with a Read of elements
-pub elements_length : {rest : List Op} (elem : PixType) (counts : List ℕ) (first second third : List Op) (width rows : ℕ) → first ≡ Read elem counts false ∷ rest
+pub elements_length : {rest : List Op} (elem : PixType) (counts : List ℕ) (first second third : List Op) (width rows : ℕ)
+    → first ≡ Read elem counts false ∷ rest
     → read_length (first ++ second ++ third) width rows ≡ width * rows * sum counts * bytes elem
 unfolding frame_length
 elements_length elem counts first second third width rows is = ap (λ ops. read_length (ops ++ second ++ third) width rows) is ∙ omega arith
@@ -21,6 +22,7 @@ unfolding frame_length
 palette_length first second third width rows is = ap (λ ops. read_length (ops ++ second ++ third) width rows) is ∙ omega arith
 
 -- the bytes of the frame that a Write states
-pub written_length : (elem : PixType) (counts : List ℕ) (width rows : ℕ) → write_length (Write elem counts ∷ []) width rows ≡ width * rows * sum counts * bytes elem
+pub written_length : (elem : PixType) (counts : List ℕ) (width rows : ℕ)
+    → write_length (Write elem counts ∷ []) width rows ≡ width * rows * sum counts * bytes elem
 unfolding frame_length
 written_length elem counts width rows = refl

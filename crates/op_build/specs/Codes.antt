@@ -19,8 +19,9 @@ use Rattle.op_build.specs.Recipe.{decode}
 
 -- decoding gives the codes of the channels at a pixel
 abbrev pub GivesCodes : Desc → List ℕ → PixelPosition → Type 0
-GivesCodes desc frame place = IsValid desc → All (λ byte. byte < 256) frame
-    → run_from frame place Start (decode desc) no_values ≡ Numbers (four (code_of desc place.width place.rows frame place.x place.row))
+GivesCodes desc frame position = IsValid desc → All (λ byte. byte < 256) frame
+    → run_from frame position Start (decode desc) no_values
+    ≡ Numbers (four (code_of desc position.width position.rows frame position.x position.row))
 
 -- the type of the codes
 abbrev pub decoded_type : Desc → PixType

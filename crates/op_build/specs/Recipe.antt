@@ -1,5 +1,6 @@
 -- The list of operations of a conversion. Steps that change nothing stand in it too.
-use Rattle.std.specs.Prelude.{ℕ, ◌-◌, ◌^◌, Bool, not, ◌&&◌, if◌then◌else◌, nat_lt, nat_eq, List, [], ◌∷◌, ◌++◌, length, slice_index_or, Option, Some, None}
+use Rattle.std.specs.Prelude.{ℕ, ◌-◌, ◌^◌, Bool, not, ◌&&◌, if◌then◌else◌, nat_lt, nat_eq, List, [], ◌∷◌, ◌++◌, length, slice_index_or}
+use Rattle.std.specs.Prelude.{Option, Some, None}
 use Rattle.frac_math.specs.Fraction.{ℚ, nat, neg_ℚ, ◌/ℚ◌, equal_ℚ}
 use Rattle.pix_desc.specs.declared.desc.Desc.{Desc}
 use Rattle.pix_desc.specs.Component.{component_of}
@@ -13,7 +14,8 @@ use Rattle.pix_meaning.specs.Pairs.{is_rgb, has_channel, component_at, channel_o
 use Rattle.pix_meaning.specs.Channels.{channel_depth, channel_levels, missing_code}
 use Rattle.op_list.specs.declared.types.PixType.TheVariants.{U8, Rat}
 use Rattle.op_list.specs.declared.op.Op.{Op}
-use Rattle.op_list.specs.declared.op.Op.TheVariants.{Read, Write, SwapBytes, Unpack, Pack, Clear, LeftShift, RightShift, Swizzle, Convert, Dither, Linear, Scale, Min, Max}
+use Rattle.op_list.specs.declared.op.Op.TheVariants.{Read, Write, SwapBytes, Unpack, Pack, Clear, LeftShift, RightShift, Swizzle, Convert}
+use Rattle.op_list.specs.declared.op.Op.TheVariants.{Dither, Linear, Scale, Min, Max}
 use Rattle.op_list.specs.Types.{bits}
 use Rattle.op_list.specs.Values.{four}
 use Rattle.pix_desc.specs.Shape.{element_counts, field_widths, slots, position_of}
@@ -33,9 +35,9 @@ split desc =
     if is_elements desc then LeftShift (size - c.shift - c.depth) ∷ RightShift (size - c.depth) ∷ []
     else Unpack (field_widths desc) ∷ []
 
--- channel c is taken from its component's place, and from place c where it is missing
-abbrev pub from_places : Desc → List ℕ
-from_places desc = four (λ c. if has_channel desc c then position_of desc (component_at desc c) else c)
+-- channel c is taken from its component's position, and from position c where it is missing
+abbrev pub channel_slots : Desc → List ℕ
+channel_slots desc = four (λ c. if has_channel desc c then position_of desc (component_at desc c) else c)
 
 abbrev pub missing_codes : Desc → List (Option ℚ)
 missing_codes desc = four (λ c. if has_channel desc c then None else Some (nat (missing_code desc c)))
@@ -44,7 +46,7 @@ unfoldable pub decode : Desc → List Op
 decode desc =
     if desc.palette then Read U8 (1 ∷ 0 ∷ 0 ∷ 0 ∷ []) Bool.true ∷ Clear (missing_codes desc) ∷ []
     else Read (element_type desc) (element_counts desc) Bool.false
-    ∷ only_if (is_swapped desc) SwapBytes ++ split desc ++ Swizzle (from_places desc) ∷ Clear (missing_codes desc) ∷ []
+    ∷ only_if (is_swapped desc) SwapBytes ++ split desc ++ Swizzle (channel_slots desc) ∷ Clear (missing_codes desc) ∷ []
 
 -- ---- from the codes of a source pixel to those of a target pixel, not yet rounded
 
@@ -70,7 +72,8 @@ over_three rows = four (λ i. linear_row (λ j.
 -- codes to values by the levels of the channels: value = code / scale - base / scale
 abbrev pub from_codes_by : (ℕ → Levels) → Op
 from_codes_by l =
-    if are_plain l then Scale (nat 1 /ℚ (l 0).scale) else Linear (diagonal (λ c. nat 1 /ℚ (l c).scale) (λ c. neg_ℚ (l c).base /ℚ (l c).scale))
+    if are_plain l then Scale (nat 1 /ℚ (l 0).scale) else Linear
+    (diagonal (λ c. nat 1 /ℚ (l c).scale) (λ c. neg_ℚ (l c).base /ℚ (l c).scale))
 
 unfoldable pub from_codes : Side → Op
 from_codes side = from_codes_by (channel_levels side)
@@ -96,15 +99,15 @@ convert pair =
 
 -- ---- from the codes of a target pixel to its elements
 
--- a place takes the channel of its component; a spare place and one that is not there take what stands at that place
+-- a position takes the channel of its component; a spare position and one that is not there take what stands at that position
 abbrev pub source_of : Desc → ℕ → Option ℕ → ℕ
 source_of desc p None = p
 source_of desc p (Some j) = channel_of desc j
 
-abbrev pub to_places : Desc → List ℕ
-to_places desc = four (λ p. source_of desc p (slice_index_or (slots desc) p None))
+abbrev pub slot_channels : Desc → List ℕ
+slot_channels desc = four (λ p. source_of desc p (slice_index_or (slots desc) p None))
 
--- 0 for the spare places that are there
+-- 0 for the spare positions that are there
 abbrev pub spare_zero : Desc → ℕ → Option ℕ → Option ℚ
 spare_zero desc p (Some j) = None
 spare_zero desc p None = if nat_lt p (length (slots desc)) then Some (nat 0) else None
@@ -114,7 +117,7 @@ spare_zeros desc = four (λ p. spare_zero desc p (slice_index_or (slots desc) p 
 
 unfoldable pub encode : Desc → List Op
 encode desc =
-    Convert (element_type desc) Bool.false ∷ Swizzle (to_places desc) ∷ Clear (spare_zeros desc)
+    Convert (element_type desc) Bool.false ∷ Swizzle (slot_channels desc) ∷ Clear (spare_zeros desc)
     ∷ (if is_elements desc then LeftShift (component_of desc 0).shift else Pack (field_widths desc))
     ∷ only_if (is_swapped desc) SwapBytes ++ Write (element_type desc) (element_counts desc) ∷ []
 

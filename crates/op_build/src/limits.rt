@@ -36,7 +36,8 @@ pub fn least_codes(desc: &Desc) -> [Option<Frac>; 4]
 fn greatest(desc: &Desc, c: u8) -> Option<Frac>
     requires valid { IsValid desc.now }
     requires channel { c < 4 }
-    ensures { result ≡ (if has_channel desc.now c then Some (nat (2 ^ channel_depth desc.now c - 1)) else None) }
+    ensures { result ≡ (if has_channel desc.now c then Some
+        (nat (2 ^ channel_depth desc.now c - 1)) else None) }
 {
     if has_channel(desc, c) {
         let code = power(channel_depth(desc, c)).saturating_sub(1);

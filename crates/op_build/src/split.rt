@@ -21,7 +21,8 @@ fn element_bits(desc: &Desc) -> u8
 pub fn left_shift(desc: &Desc) -> u8
     requires valid { IsValid desc.now }
     requires elements { is_elements desc.now ≡ true }
-    ensures { result ≡ bits (element_type desc.now) - (component_of desc.now 0).shift - (component_of desc.now 0).depth }
+    ensures { result ≡ bits (element_type desc.now) - (component_of desc.now 0).shift -
+        (component_of desc.now 0).depth }
 {
     let comp = component_of(desc, 0);
     element_bits(desc)

@@ -10,10 +10,10 @@ ghost use Rattle.op_build.specs.Steps.{step_if, operations};
 use crate::code_values::{from_codes, to_codes};
 use crate::element_kind::{element_type, is_swapped};
 use crate::limits::{greatest_codes, least_codes};
-use crate::places::{spare_zeros, to_places};
 use crate::rows::over_three;
-use crate::sources::{from_places, missing_codes};
+use crate::sources::{channel_slots, missing_codes};
 use crate::split::{left_shift, right_shift};
+use crate::target_slots::{slot_channels, spare_zeros};
 use colour_matrix::{from_rgb, to_rgb};
 use op_list::{Op, PixType};
 use pix_desc::{Desc, component_of, element_counts, field_widths, is_elements};
@@ -81,7 +81,7 @@ fn decode_plain(desc: &Desc) -> [Option<Op>; 6]
         first,
         second,
         Some(Op::Swizzle {
-            from: from_places(desc),
+            from: channel_slots(desc),
         }),
         Some(Op::Clear {
             values: missing_codes(desc),
@@ -161,7 +161,8 @@ pub fn convert(pair: &Pair) -> [Option<Op>; 8]
 // Puts an element or a word together.
 fn join(desc: &Desc) -> Op
     requires { IsValid desc.now }
-    ensures { result ≡ (if is_elements desc.now then Op.LeftShift (component_of desc.now 0).shift else Op.Pack (field_widths desc.now)) }
+    ensures { result ≡ (if is_elements desc.now then Op.LeftShift
+        (component_of desc.now 0).shift else Op.Pack (field_widths desc.now)) }
 {
     if is_elements(desc) {
         Op::LeftShift {
@@ -185,7 +186,7 @@ pub fn encode(desc: &Desc) -> [Option<Op>; 6]
             expand: false,
         }),
         Some(Op::Swizzle {
-            from: to_places(desc),
+            from: slot_channels(desc),
         }),
         Some(Op::Clear {
             values: spare_zeros(desc),

@@ -6,7 +6,8 @@ use Rattle.pix_desc.specs.declared.desc.Layout.{Layout}
 use Rattle.pix_desc.specs.declared.desc.Layout.TheVariants.{Elements, Word}
 use Rattle.pix_desc.specs.declared.desc.DescFault.{DescFault}
 use Rattle.pix_desc.specs.declared.desc.DescFault.TheVariants.{ComponentCount, DepthRange, Overlap, OutsideStep, MixedLayout, PlaneCount}
-use Rattle.pix_desc.specs.Layouts.{IsValid, checked, is_count, some_component, some_pair, is_depth, overlap, is_inside, is_mixed, has_all_planes, is_elements}
+use Rattle.pix_desc.specs.Layouts.{IsValid, checked, is_count, some_component, some_pair, is_depth, overlap, is_inside, is_mixed}
+use Rattle.pix_desc.specs.Layouts.{has_all_planes, is_elements}
 use Rattle.pix_desc.proofs.Valid.{has_no_fault}
 
 abbrev layout_for : Bool → Result Layout DescFault

@@ -1,5 +1,6 @@
 -- How many elements a pixel has in each plane.
-use Rattle.std.proofs.Common.{◌≡◌, ℕ, zero, suc, ◌+◌, ◌/◌, ◌<◌, ◌≤◌, ⊎_elim, eq-zero-or-pos, true, ◌&&◌, nat_le, List, [], ◌∷◌, length, get_or, refl, ap, ◌∙◌, arith}
+use Rattle.std.proofs.Common.{◌≡◌, ℕ, zero, suc, ◌+◌, ◌/◌, ◌<◌, ◌≤◌, ⊎_elim, eq-zero-or-pos, true, ◌&&◌, nat_le, List, [], ◌∷◌, length}
+use Rattle.std.proofs.Common.{get_or, refl, ap, ◌∙◌, arith}
 use Rattle.std.specs.Prelude.{sum}
 use Rattle.std.proofs.lemmas.Bool.{and_from, le-leb}
 use Rattle.std.proofs.lemmas.List.Sums.{get_or-le-sum_by}
@@ -27,7 +28,8 @@ count_in desc size (suc (suc zero)) below = refl
 count_in desc size (suc (suc (suc zero))) below = refl
 count_in desc size (suc (suc (suc (suc plane)))) below = absurd (omega arith)
 
-pub count_at : (desc : Desc) (size plane : ℕ) → element_bytes desc ≡ size → plane < 4 → get_or (element_counts desc) plane 0 ≡ plane_step desc plane / size
+pub count_at : (desc : Desc) (size plane : ℕ) → element_bytes desc ≡ size → plane < 4
+    → get_or (element_counts desc) plane 0 ≡ plane_step desc plane / size
 count_at desc size plane bytes below = ap (λ counts. get_or counts plane 0) (counts_are desc size bytes) ∙ count_in desc size plane below
 
 pub length-counts : (desc : Desc) → length (element_counts desc) ≡ 4
@@ -45,7 +47,8 @@ module _ (desc : Desc) (size : ℕ) (laid : IsLaidOut desc) (all : has_all_plane
   size_positive = omega (arith, read 0 laid.some, bytes_read-positive (component_of desc 0))
 
   pub count_of_used : (j plane : ℕ) → j < desc.count → (component_of desc j).plane ≡ plane → 0 < plane_step desc plane / size
-  count_of_used j plane listed there = le-div 1 (plane_step desc plane) size size_positive (omega (arith, step_by desc j plane laid listed there, read j listed))
+  count_of_used j plane listed there =
+      le-div 1 (plane_step desc plane) size size_positive (omega (arith, step_by desc j plane laid listed there, read j listed))
 
   pub count_before : (plane other : ℕ) → other < plane → 0 < plane_step desc plane / size → 0 < plane_step desc other / size
   count_before plane other below some =
@@ -60,6 +63,7 @@ module _ (desc : Desc) (size : ℕ) (laid : IsLaidOut desc) (all : has_all_plane
   pub counts_some : 1 ≤ sum (element_counts desc)
   counts_some =
       let plane = (component_of desc 0).plane in
-      let here : 0 < get_or (element_counts desc) plane 0 = omega (arith, count_at desc size plane bytes (laid.plane 0 laid.some), count_of_used 0 plane laid.some refl) in
+      let here : 0 < get_or (element_counts desc) plane 0 = omega
+      (arith, count_at desc size plane bytes (laid.plane 0 laid.some), count_of_used 0 plane laid.some refl) in
       let within : plane < length (element_counts desc) = omega (arith, length-counts desc, laid.plane 0 laid.some) in
       omega (arith, get_or-le-sum_by (λ n. n) (element_counts desc) plane 0 within)

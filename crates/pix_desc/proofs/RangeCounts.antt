@@ -1,5 +1,6 @@
 -- How many numbers of a range pass a test.
-use Rattle.std.proofs.Common.{◌≡◌, ℕ, zero, suc, ◌+◌, ◌<◌, ◌≤◌, Bool, true, false, if◌then◌else◌, List, [], ◌∷◌, take, length, get_or, refl, ap, ◌∙◌, arith}
+use Rattle.std.proofs.Common.{◌≡◌, ℕ, zero, suc, ◌+◌, ◌<◌, ◌≤◌, Bool, true, false, if◌then◌else◌, List, [], ◌∷◌, take, length, get_or, refl}
+use Rattle.std.proofs.Common.{ap, ◌∙◌, arith}
 use Rattle.std.specs.List.{range_with_len, count_by}
 use Rattle.std.proofs.lemmas.Bool.{cond-true, cond-false, both_ways}
 use Rattle.std.proofs.lemmas.List.FromFn.{length-range_with_len}
@@ -20,7 +21,8 @@ count_below_more p n k below passes =
     omega (arith, more, here, ap (count_by p) (take-range 0 n k (omega arith)))
 
 pub count_below_le : (p : ℕ → Bool) (n k : ℕ) → k ≤ n → count_by p (range_with_len 0 k) ≤ count_by p (range_with_len 0 n)
-count_below_le p n k below = omega (arith, sum_by-take-le (λ x. if p x then 1 else 0) (range_with_len 0 n) k, ap (count_by p) (take-range 0 n k below))
+count_below_le p n k below =
+    omega (arith, sum_by-take-le (λ x. if p x then 1 else 0) (range_with_len 0 n) k, ap (count_by p) (take-range 0 n k below))
 
 weight_le : (x y : Bool) → (x ≡ true → y ≡ true) → (if x then 1 else 0) ≤ (if y then 1 else 0)
 weight_le true true along = omega arith
@@ -30,13 +32,23 @@ weight_le false false along = omega arith
 
 -- no fewer pass a weaker test, and more where one element passes it alone
 pub count_weaker : (p q : ℕ → Bool) (xs : List ℕ) → ((x : ℕ) → p x ≡ true → q x ≡ true) → count_by p xs ≤ count_by q xs
-count_weaker p q xs along = sum_by-le-sum_by (λ x. if p x then 1 else 0) (λ x. if q x then 1 else 0) xs (λ x. weight_le (p x) (q x) (along x))
+count_weaker p q xs along =
+    sum_by-le-sum_by (λ x. if p x then 1 else 0) (λ x. if q x then 1 else 0) xs (λ x. weight_le (p x) (q x) (along x))
 
-count_more_of : (p q : ℕ → Bool) (xs : List ℕ) (i : ℕ) → ((x : ℕ) → p x ≡ true → q x ≡ true) → i < length xs → p (get_or xs i 0) ≡ false → q (get_or xs i 0) ≡ true
+count_more_of : (p q : ℕ → Bool) (xs : List ℕ) (i : ℕ) → ((x : ℕ) → p x ≡ true → q x ≡ true) → i < length xs → p (get_or xs i 0) ≡ false
+    → q (get_or xs i 0) ≡ true
     → count_by p xs + 1 ≤ count_by q xs
 count_more_of p q [] i along within fails passes = absurd (omega arith)
 count_more_of p q (x ∷ xs) zero along within fails passes =
-    omega (arith, sum_by-cons (λ t. if p t then 1 else 0) x xs, sum_by-cons (λ t. if q t then 1 else 0) x xs, cond-false {A = ℕ} (p x) 1 0 fails, cond-true {A = ℕ} (q x) 1 0 passes, count_weaker p q xs along)
+    omega (
+      arith,
+      sum_by-cons (λ t. if p t then 1 else 0) x xs,
+      sum_by-cons (λ t. if q t then 1 else 0) x xs,
+      cond-false {A = ℕ}
+          (p x) 1 0 fails,
+      cond-true {A = ℕ} (q x) 1 0 passes,
+      count_weaker p q xs along,
+    )
 count_more_of p q (x ∷ xs) (suc i) along within fails passes =
     omega (
       arith,
@@ -46,6 +58,8 @@ count_more_of p q (x ∷ xs) (suc i) along within fails passes =
       count_more_of p q xs i along (omega arith) fails passes,
     )
 
-pub count_more : (p q : ℕ → Bool) (n i : ℕ) → ((x : ℕ) → p x ≡ true → q x ≡ true) → i < n → p i ≡ false → q i ≡ true → count_by p (range_with_len 0 n) + 1 ≤ count_by q (range_with_len 0 n)
+pub count_more : (p q : ℕ → Bool) (n i : ℕ) → ((x : ℕ) → p x ≡ true → q x ≡ true) → i < n → p i ≡ false → q i ≡ true
+    → count_by p (range_with_len 0 n) + 1 ≤ count_by q (range_with_len 0 n)
 count_more p q n i along within fails passes =
-    count_more_of p q (range_with_len 0 n) i along (omega (arith, length-range_with_len 0 n)) (ap p (get_or-range n i within) ∙ fails) (ap q (get_or-range n i within) ∙ passes)
+    count_more_of p q (range_with_len 0 n) i along (omega (arith, length-range_with_len 0 n)) (ap p (get_or-range n i within) ∙ fails)
+    (ap q (get_or-range n i within) ∙ passes)

@@ -1,8 +1,11 @@
 -- The layout Word: the fields that the components and the runs of spare bits cut a word into.
-use Rattle.std.proofs.Common.{◌≡◌, ◌≢◌, ℕ, zero, suc, ◌+◌, ◌-◌, ◌<◌, ◌≤◌, ◌⊎◌, ⊎_elim, inl, inr, Bool, true, false, not, ◌&&◌, ◌||◌, nat_le, nat_eq, List, [], ◌∷◌, length, get_or, Option, Some, None, eqb-true, eq-eqb, eq-zero-or-pos, sym, refl, ap, subst, ◌∙◌, arith}
+use Rattle.std.proofs.Common.{◌≡◌, ◌≢◌, ℕ, zero, suc, ◌+◌, ◌-◌, ◌<◌, ◌≤◌, ◌⊎◌, ⊎_elim, inl, inr, Bool, true, false, not, ◌&&◌, ◌||◌, nat_le}
+use Rattle.std.proofs.Common.{nat_eq, List, [], ◌∷◌, length, get_or, Option, Some, None, eqb-true, eq-eqb, eq-zero-or-pos, sym, refl, ap}
+use Rattle.std.proofs.Common.{subst, ◌∙◌, arith}
 use Rattle.std.specs.Prelude.{nat_lt}
 use Rattle.std.specs.List.{range_with_len, count_by, find}
-use Rattle.std.proofs.lemmas.Bool.{and_from, and_parts, not_from_false, not-true, false_from_ne_true, both_ways, cond-true, cond-false, le-leb, lt-leb, leb-true, lt-ltb, ltb-true, or_right, or_left, cases_lt, cases_eq, cases_Bool}
+use Rattle.std.proofs.lemmas.Bool.{and_from, and_parts, not_from_false, not-true, false_from_ne_true, both_ways, cond-true, cond-false}
+use Rattle.std.proofs.lemmas.Bool.{le-leb, lt-leb, leb-true, lt-ltb, ltb-true, or_right, or_left, cases_lt, cases_eq, cases_Bool}
 use Rattle.std.proofs.lemmas.Bool.Decides.{nat_tests}
 use Rattle.std.proofs.lemmas.List.FromFn.{length-range_with_len}
 use Rattle.std.proofs.lemmas.Option.{none-some, same_Some}
@@ -30,8 +33,10 @@ covers desc bit c = nat_le (word_shift desc c) bit && nat_lt bit (word_shift des
 
 spare_free : (desc : Desc) (j bit : ℕ) → is_spare desc bit ≡ true → HasBit desc j bit → ⊥
 spare_free desc j bit spare has =
-    both_ways (covers desc bit (component_of desc j)) (some_component-false desc (covers desc bit) j (not-true (some_component desc (covers desc bit)) spare) has.listed)
-    (and_from (nat_le (low_of desc j) bit) (nat_lt bit (end_of desc j)) (le-leb (low_of desc j) bit has.low) (lt-ltb bit (end_of desc j) has.high))
+    both_ways (covers desc bit (component_of desc j))
+    (some_component-false desc (covers desc bit) j (not-true (some_component desc (covers desc bit)) spare) has.listed)
+    (and_from (nat_le (low_of desc j) bit) (nat_lt bit (end_of desc j)) (le-leb (low_of desc j) bit has.low)
+    (lt-ltb bit (end_of desc j) has.high))
 
 spare_from : (desc : Desc) (bit : ℕ) → ((j : ℕ) → HasBit desc j bit → ⊥) → is_spare desc bit ≡ true
 spare_from desc bit none =
@@ -83,26 +88,30 @@ end_below-le : (desc : Desc) (js : List ℕ) (top : ℕ) → end_below desc js t
 end_below-le desc [] top = omega arith
 end_below-le desc (j ∷ js) top = let rest = end_below-le desc js top in grind (arith, nat_tests)
 
-end_below-greatest : (desc : Desc) (js : List ℕ) (top i : ℕ) → i < length js → end_of desc (get_or js i 0) ≤ top → end_of desc (get_or js i 0) ≤ end_below desc js top
+end_below-greatest : (desc : Desc) (js : List ℕ) (top i : ℕ) → i < length js → end_of desc (get_or js i 0) ≤ top
+    → end_of desc (get_or js i 0) ≤ end_below desc js top
 end_below-greatest desc [] top i within under = absurd (omega arith)
 end_below-greatest desc (j ∷ js) top zero within under = grind (arith, nat_tests)
-end_below-greatest desc (j ∷ js) top (suc i) within under = let rest = end_below-greatest desc js top i (omega arith) under in grind (arith, nat_tests)
+end_below-greatest desc (j ∷ js) top (suc i) within under =
+    let rest = end_below-greatest desc js top i (omega arith) under in grind (arith, nat_tests)
 
-end_below-place : (desc : Desc) (js : List ℕ) (top : ℕ) → 0 < end_below desc js top → (i : ℕ) × (i < length js) × (end_of desc (get_or js i 0) ≡ end_below desc js top)
-end_below-place desc [] top some = absurd (omega arith)
-end_below-place desc (j ∷ js) top some =
+end_below-component : (desc : Desc) (js : List ℕ) (top : ℕ) → 0 < end_below desc js top
+    → (i : ℕ) × (i < length js) × (end_of desc (get_or js i 0) ≡ end_below desc js top)
+end_below-component desc [] top some = absurd (omega arith)
+end_below-component desc (j ∷ js) top some =
     let test = nat_le (end_of desc j) top && nat_lt (end_below desc js top) (end_of desc j) in
     elim (cases_Bool test) as (λ _. (i : ℕ) × (i < length (j ∷ js)) × (end_of desc (get_or (j ∷ js) i 0) ≡ end_below desc (j ∷ js) top)) [
       | inl here ↦ (0, omega arith, sym (cond-true test (end_of desc j) (end_below desc js top) here))
       | inr there ↦
           let same = cond-false test (end_of desc j) (end_below desc js top) there in
-          let place = end_below-place desc js top (omega (arith, same)) in
-          (suc place.0, omega (arith, place.1), place.2 ∙ sym same)
+          let position = end_below-component desc js top (omega (arith, same)) in
+          (suc position.0, omega (arith, position.1), position.2 ∙ sym same)
     ]
 
 -- the component of a field that ends at a boundary
 module _ (desc : Desc) (apart : AreApart desc) (top : ℕ) (boundary : IsBoundary desc top) where
-  apart_from : (i j : ℕ) → j < desc.count → end_of desc j ≡ top → i < desc.count → i ≢ j → end_of desc i ≤ top → end_of desc i ≤ low_of desc j
+  apart_from : (i j : ℕ) → j < desc.count → end_of desc j ≡ top → i < desc.count → i ≢ j → end_of desc i ≤ top
+      → end_of desc i ≤ low_of desc j
   apart_from i j listed at also differ under =
       ⊎_elim
       (λ (over : low_of desc j < end_of desc i).
@@ -124,7 +133,8 @@ module _ (desc : Desc) (apart : AreApart desc) (top : ℕ) (boundary : IsBoundar
       (boundary i also))
       (cases_eq i j)
 
-  below_component : (j : ℕ) → find (λ i. nat_eq (end_of desc i) top) (range_with_len 0 desc.count) ≡ Some j → IsFieldBelow desc top (field_for desc top (Some j))
+  below_component : (j : ℕ) → find (λ i. nat_eq (end_of desc i) top) (range_with_len 0 desc.count) ≡ Some j
+      → IsFieldBelow desc top (field_for desc top (Some j))
   below_component j found =
       let passes = found_passes (λ i. nat_eq (end_of desc i) top) desc.count j found in
       let listed : j < desc.count = passes.0 in
@@ -139,7 +149,9 @@ module _ (desc : Desc) (apart : AreApart desc) (top : ℕ) (boundary : IsBoundar
         within = omega arith;
         boundary = subst (IsBoundary desc) (sym rest) (below_low j listed at);
         fewer = omega (arith, more, ap (ends desc) rest, ap (runs desc) rest, fewer_runs desc (low_of desc j) top (omega arith));
-        holds = λ i same. subst (λ k. (k < desc.count) × ((component_of desc j).depth ≡ (component_of desc k).depth) × (end_of desc k ≡ top)) (same_Some j i same) (listed, refl, at);
+        holds =
+            λ i same. subst (λ k. (k < desc.count) × ((component_of desc j).depth ≡ (component_of desc k).depth) × (end_of desc k ≡ top))
+            (same_Some j i same) (listed, refl, at);
         passed = λ i also under. ⊎_elim
             (λ (same : i ≡ j). inr (ap Some (sym same)))
             (λ (differ : i ≢ j). inl (omega (arith, apart_from i j listed at also differ under)))
@@ -156,14 +168,15 @@ module _ (desc : Desc) (apart : AreApart desc) (top : ℕ) (boundary : IsBoundar
     next_greatest i listed under =
         let at = get_or-range desc.count i listed in
         subst (λ k. end_of desc k ≤ end_below desc (range_with_len 0 desc.count) top) at
-        (end_below-greatest desc (range_with_len 0 desc.count) top i (omega (arith, length-range_with_len 0 desc.count)) (subst (λ k. end_of desc k ≤ top) (sym at) under))
+        (end_below-greatest desc (range_with_len 0 desc.count) top i (omega (arith, length-range_with_len 0 desc.count))
+        (subst (λ k. end_of desc k ≤ top) (sym at) under))
 
-    next_place : 0 < next → (i : ℕ) × (i < desc.count) × (end_of desc i ≡ next)
+    next_component : 0 < next → (i : ℕ) × (i < desc.count) × (end_of desc i ≡ next)
     unfolding next
-    next_place positive =
-        let place = end_below-place desc (range_with_len 0 desc.count) top positive in
-        let listed : place.0 < desc.count = omega (arith, place.1, length-range_with_len 0 desc.count) in
-        (place.0, listed, ap (end_of desc) (sym (get_or-range desc.count place.0 listed)) ∙ place.2)
+    next_component positive =
+        let position = end_below-component desc (range_with_len 0 desc.count) top positive in
+        let listed : position.0 < desc.count = omega (arith, position.1, length-range_with_len 0 desc.count) in
+        (position.0, listed, ap (end_of desc) (sym (get_or-range desc.count position.0 listed)) ∙ position.2)
 
     next_below : next < top
     unfolding next
@@ -171,8 +184,10 @@ module _ (desc : Desc) (apart : AreApart desc) (top : ℕ) (boundary : IsBoundar
         let least : next ≤ top = end_below-le desc (range_with_len 0 desc.count) top in
         ⊎_elim
         (λ (same : next ≡ top).
-        let place = next_place (omega arith) in
-        absurd (both_ways (nat_eq (end_of desc place.0) top) (none_passes (λ i. nat_eq (end_of desc i) top) desc.count place.0 none place.1) (eq-eqb (end_of desc place.0) top (place.2 ∙ same))))
+        let position = next_component (omega arith) in
+        absurd (both_ways (nat_eq (end_of desc position.0) top)
+        (none_passes (λ i. nat_eq (end_of desc i) top) desc.count position.0 none position.1)
+        (eq-eqb (end_of desc position.0) top (position.2 ∙ same))))
         (λ (differ : next ≢ top). omega arith)
         (cases_eq next top)
 
@@ -189,9 +204,16 @@ module _ (desc : Desc) (apart : AreApart desc) (top : ℕ) (boundary : IsBoundar
         (⊎_elim
         (λ (bottom : next ≡ 0). or_left (nat_eq next 0) (not (is_spare desc (next - 1))) (eq-eqb next 0 bottom))
         (λ (above : 0 < next).
-        let place = next_place above in
-        let has : HasBit desc place.0 (next - 1) = record { listed = place.1; low = omega (arith, apart.some place.0 place.1, place.2); high = omega (arith, place.2) } in
-        or_right (nat_eq next 0) (not (is_spare desc (next - 1))) (not_from_false (is_spare desc (next - 1)) (not_spare desc place.0 (next - 1) has)))
+        let position = next_component above in
+        let has : HasBit desc position.0
+        (next - 1) = record {
+          listed = position.1;
+          low = omega (arith, apart.some position.0 position.1, position.2);
+          high = omega
+              (arith, position.2);
+        } in
+        or_right (nat_eq next 0) (not (is_spare desc (next - 1)))
+        (not_from_false (is_spare desc (next - 1)) (not_spare desc position.0 (next - 1) has)))
         (eq-zero-or-pos next))
 
     below_spare : IsFieldBelow desc top (field_for desc top None)
@@ -212,7 +234,8 @@ module _ (desc : Desc) (apart : AreApart desc) (top : ℕ) (boundary : IsBoundar
           passed = λ j listed under. inl (omega (arith, next_greatest j listed under));
         }
 
-  below_found : 0 < top → (found : Option ℕ) → find (λ i. nat_eq (end_of desc i) top) (range_with_len 0 desc.count) ≡ found → IsFieldBelow desc top (field_for desc top found)
+  below_found : 0 < top → (found : Option ℕ) → find (λ i. nat_eq (end_of desc i) top) (range_with_len 0 desc.count) ≡ found
+      → IsFieldBelow desc top (field_for desc top found)
   below_found some (Some j) is = below_component j is
   below_found some None is = below_spare some is
 

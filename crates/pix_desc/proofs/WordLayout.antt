@@ -1,5 +1,6 @@
 -- The layout Word as a whole: its fields come to the bits of the word, and each component has one of them.
-use Rattle.std.proofs.Common.{◌≡◌, ℕ, zero, suc, ◌+◌, ◌-◌, ◌<◌, ◌≤◌, ⊎_elim, nat_eq, List, [], ◌∷◌, drop, map, length, get_or, Some, eq-zero-or-pos, eq-eqb, sym, subst, ◌∙◌, arith}
+use Rattle.std.proofs.Common.{◌≡◌, ℕ, zero, suc, ◌+◌, ◌-◌, ◌<◌, ◌≤◌, ⊎_elim, nat_eq, List, [], ◌∷◌, drop, map, length, get_or, Some}
+use Rattle.std.proofs.Common.{eq-zero-or-pos, eq-eqb, sym, subst, ◌∙◌, arith}
 use Rattle.std.specs.Prelude.{sum}
 use Rattle.std.proofs.lemmas.Bool.{cond-true, cond-false, ne_eqb}
 use Rattle.std.proofs.lemmas.List.Sums.{sum_by-cons}
@@ -30,7 +31,8 @@ module _ (desc : Desc) (apart : AreApart desc) where
     found = λ j listed under. absurd (omega (arith, apart.some j listed));
   }
 
-  more_fields : (top most : ℕ) (f : Field) (fs : List Field) → IsFieldBelow desc top f → AreFields desc (top - f.width) most fs → AreFields desc top (suc most) (f ∷ fs)
+  more_fields : (top most : ℕ) (f : Field) (fs : List Field) → IsFieldBelow desc top f → AreFields desc (top - f.width) most fs
+      → AreFields desc top (suc most) (f ∷ fs)
   more_fields top most f fs below rest =
       let whole : sum (widths_of (f ∷ fs)) ≡ top = omega (arith, sum_by-cons (λ n. n) f.width (widths_of fs), rest.whole, below.within) in
       record {
@@ -39,7 +41,12 @@ module _ (desc : Desc) (apart : AreApart desc) where
         some = some_of;
         holds = holds_of whole;
         found = λ j listed under. ⊎_elim
-            (λ (later : end_of desc j ≤ top - f.width). let place = rest.found j listed later in (suc place.0, omega (arith, place.1), place.2))
+            (λ (later : end_of desc j ≤ top - f.width). let position = rest.found j listed later in (
+              suc position.0,
+              omega
+                  (arith, position.1),
+              position.2,
+            ))
             (λ (here : f.slot ≡ Some j). (0, omega arith, here))
             (below.passed j listed under);
       }
@@ -49,11 +56,13 @@ module _ (desc : Desc) (apart : AreApart desc) where
       some_of (suc k) within = rest.some k (omega arith)
 
       holds_of : sum (widths_of (f ∷ fs)) ≡ top → (k j : ℕ) → k < length (f ∷ fs) → (get_or (f ∷ fs) k no_field).slot ≡ Some j
-          → (j < desc.count) × ((get_or (f ∷ fs) k no_field).width ≡ (component_of desc j).depth) × (sum (drop k (widths_of (f ∷ fs))) ≡ end_of desc j)
+          → (j < desc.count) × ((get_or (f ∷ fs) k no_field).width ≡ (component_of desc j).depth) ×
+          (sum (drop k (widths_of (f ∷ fs))) ≡ end_of desc j)
       holds_of whole zero j within is = let at = below.holds j is in (at.0, at.1, whole ∙ sym at.2)
       holds_of whole (suc k) j within is = rest.holds k j (omega arith) is
 
-  pub fields_below_are : (most top : ℕ) → IsBoundary desc top → ends desc top + runs desc top ≤ most → AreFields desc top most (fields_below desc most top)
+  pub fields_below_are : (most top : ℕ) → IsBoundary desc top → ends desc top + runs desc top ≤ most
+      → AreFields desc top most (fields_below desc most top)
   fields_below_are zero top boundary few =
       ⊎_elim
       (λ (bottom : top ≡ 0). no_fields top 0 bottom)
@@ -63,9 +72,11 @@ module _ (desc : Desc) (apart : AreApart desc) where
       let field = field_below desc top in
       let rest = field ∷ fields_below desc most (top - field.width) in
       ⊎_elim
-      (λ (bottom : top ≡ 0). subst (AreFields desc top (suc most)) (sym (cond-true (nat_eq top 0) [] rest (eq-eqb top 0 bottom))) (no_fields top (suc most) bottom))
+      (λ (bottom : top ≡ 0). subst (AreFields desc top (suc most)) (sym (cond-true (nat_eq top 0) [] rest (eq-eqb top 0 bottom)))
+      (no_fields top (suc most) bottom))
       (λ (some : 0 < top).
       let below = is_field_below desc apart top boundary some in
       subst (AreFields desc top (suc most)) (sym (cond-false (nat_eq top 0) [] rest (ne_eqb top 0 (λ bottom. omega arith))))
-      (more_fields top most field (fields_below desc most (top - field.width)) below (fields_below_are most (top - field.width) below.boundary (omega (arith, below.fewer)))))
+      (more_fields top most field (fields_below desc most (top - field.width)) below
+      (fields_below_are most (top - field.width) below.boundary (omega (arith, below.fewer)))))
       (eq-zero-or-pos top)

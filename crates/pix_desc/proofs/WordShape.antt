@@ -1,5 +1,7 @@
 -- What the layout Word says of a descriptor that passes the check.
-use Rattle.std.proofs.Common.{◌≡◌, ℕ, zero, suc, ◌+◌, ◌-◌, ◌*◌, ◌/◌, ◌<◌, ◌≤◌, ◌⊎◌, ⊎_elim, inl, inr, Bool, true, false, ◌&&◌, ◌||◌, nat_le, nat_eq, List, [], ◌∷◌, drop, map, length, get_or, get_or-drop, Some, None, eqb-true, sym, refl, ap, ◌∙◌, arith}
+use Rattle.std.proofs.Common.{◌≡◌, ℕ, zero, suc, ◌+◌, ◌-◌, ◌*◌, ◌/◌, ◌<◌, ◌≤◌, ◌⊎◌, ⊎_elim, inl, inr, Bool, true, false, ◌&&◌, ◌||◌, nat_le}
+use Rattle.std.proofs.Common.{nat_eq, List, [], ◌∷◌, drop, map, length, get_or, get_or-drop, Some, None, eqb-true, sym, refl, ap, ◌∙◌}
+use Rattle.std.proofs.Common.{arith}
 use Rattle.std.specs.Prelude.{sum}
 use Rattle.std.specs.List.{range_with_len, list_all, count_by}
 use Rattle.std.proofs.lemmas.Bool.{and_parts, or_cases, cond-false, leb-true, cases_lt, cases_eq}
@@ -63,17 +65,20 @@ has_few_fields desc c = nat_le (desc.count + count_by (begins_spare desc) (range
 word_sizes : (c : Comp) → is_word_size c ≡ true → (c.step ≡ 1) ⊎ ((c.step ≡ 2) ⊎ (c.step ≡ 4))
 word_sizes c test =
     ⊎_elim
-    (λ two. ⊎_elim (λ a. inl (eqb-true c.step 1 a)) (λ b. inr (inl (eqb-true c.step 2 b))) (or_cases (nat_eq c.step 1) (nat_eq c.step 2) two))
+    (λ two. ⊎_elim (λ a. inl (eqb-true c.step 1 a)) (λ b. inr (inl (eqb-true c.step 2 b)))
+    (or_cases (nat_eq c.step 1) (nat_eq c.step 2) two))
     (λ last. inr (inr (eqb-true c.step 4 last)))
     (or_cases (nat_eq c.step 1 || nat_eq c.step 2) (nat_eq c.step 4) test)
 
 pub has_word : (desc : Desc) → IsLaidOut desc → has_all_planes desc ≡ true → is_elements desc ≡ false → is_word desc ≡ true → HasWord desc
 unfolding fields element_bytes
 has_word desc laid all no_elements word =
-    let tests = and_parts (nat_eq (length (one_a_plane (components desc))) 1) (list_all (λ c. is_word_size c && has_few_fields desc c) (components desc)) word in
+    let tests = and_parts (nat_eq (length (one_a_plane (components desc))) 1)
+    (list_all (λ c. is_word_size c && has_few_fields desc c) (components desc)) word in
     let one = eqb-true (length (one_a_plane (components desc))) 1 tests.0 in
     let first = component_of desc 0 in
-    let here = and_parts (is_word_size first) (has_few_fields desc first) (list_all-map_true (component_of desc) (λ c. is_word_size c && has_few_fields desc c) desc.count 0 tests.1 laid.some) in
+    let here = and_parts (is_word_size first) (has_few_fields desc first)
+    (list_all-map_true (component_of desc) (λ c. is_word_size c && has_few_fields desc c) desc.count 0 tests.1 laid.some) in
     let plane = plane_zero desc laid all one in
     let step = λ (j : ℕ) (listed : j < desc.count).
     sym (laid.step j listed) ∙ ap (plane_step desc) (plane j listed ∙ sym (plane 0 laid.some)) ∙ laid.step 0 laid.some in
@@ -81,7 +86,8 @@ has_word desc laid all no_elements word =
     let bytes : element_bytes desc ≡ first.step = cond-false (is_elements desc) (bytes_read first) first.step no_elements in
     let zero_step : plane_step desc 0 ≡ first.step = ap (plane_step desc) (sym (plane 0 laid.some)) ∙ laid.step 0 laid.some in
     let some_step : 0 < first.step = omega (arith, word_end desc laid 0 laid.some, laid.deep 0 laid.some) in
-    let within = λ (j : ℕ) (listed : j < desc.count). let end : end_of desc j ≤ 8 * first.step = omega (arith, word_end desc laid j listed, step j listed) in end in
+    let within = λ (j : ℕ) (listed : j < desc.count). let end : end_of desc j ≤ 8 * first.step = omega
+    (arith, word_end desc laid j listed, step j listed) in end in
     record {
       word = no_elements;
       size = word_sizes first here.0;
@@ -89,7 +95,9 @@ has_word desc laid all no_elements word =
       step = step;
       ends = within;
       bytes = bytes;
-      counts = counts_are desc first.step bytes ∙ one_word first.step (plane_step desc 0) (plane_step desc 1) (plane_step desc 2) (plane_step desc 3) some_step zero_step
+      counts =
+          counts_are desc first.step bytes
+          ∙ one_word first.step (plane_step desc 0) (plane_step desc 1) (plane_step desc 2) (plane_step desc 3) some_step zero_step
           (others 1 (omega arith)) (others 2 (omega arith)) (others 3 (omega arith));
       fields = fields_below_are desc (are_apart desc laid plane step) 4 (8 * first.step)
           (λ j listed. inl (within j listed))
@@ -101,23 +109,31 @@ has_word desc laid all no_elements word =
           ));
     }
 
--- ---- widths and slots by the place of a field
+-- ---- widths and slots by the position of a field
 
 -- lists whose numbers agree, with 0 past their ends, have one sum
 same_sums : (xs ys : List ℕ) → ((i : ℕ) → get_or xs i 0 ≡ get_or ys i 0) → sum xs ≡ sum ys
 same_sums [] [] same = refl
 same_sums [] (y ∷ ys) same = omega (arith, sum_by-cons (λ n. n) y ys, same 0, same_sums [] ys (λ i. same (suc i)))
 same_sums (x ∷ xs) [] same = omega (arith, sum_by-cons (λ n. n) x xs, same 0, same_sums xs [] (λ i. same (suc i)))
-same_sums (x ∷ xs) (y ∷ ys) same = omega (arith, sum_by-cons (λ n. n) x xs, sum_by-cons (λ n. n) y ys, same 0, same_sums xs ys (λ i. same (suc i)))
+same_sums (x ∷ xs) (y ∷ ys) same =
+    omega (arith, sum_by-cons (λ n. n) x xs, sum_by-cons (λ n. n) y ys, same 0, same_sums xs ys (λ i. same (suc i)))
 
 same_rests : (xs ys : List ℕ) (k : ℕ) → ((i : ℕ) → get_or xs i 0 ≡ get_or ys i 0) → sum (drop k xs) ≡ sum (drop k ys)
 same_rests xs ys k same = same_sums (drop k xs) (drop k ys) (λ i. get_or-drop k xs i 0 ∙ same (k + i) ∙ sym (get_or-drop k ys i 0))
 
--- what stands behind a place is less by the number there than what stands from it on
+-- what stands behind a position is less by the number there than what stands from it on
 pub rest_below : (ns : List ℕ) (k i : ℕ) → k < i → k < length ns → get_or ns k 0 + sum (drop i ns) ≤ sum (drop k ns)
 rest_below ns k i before within =
-    let place : k + 1 + (i - (k + 1)) ≡ i = omega arith in
-    omega (arith, sum_by-drop_more (λ n. n) ns k 0 within, sum_by-take-drop (λ n. n) (drop (k + 1) ns) (i - (k + 1)), ap sum (drop-drop (i - (k + 1)) (k + 1) ns), ap (λ t. sum (drop t ns)) place)
+    let position : k + 1 + (i - (k + 1)) ≡ i = omega arith in
+    omega (
+      arith,
+      sum_by-drop_more (λ n. n) ns k 0 within,
+      sum_by-take-drop (λ n. n) (drop (k + 1) ns) (i - (k + 1)),
+      ap sum
+          (drop-drop (i - (k + 1)) (k + 1) ns),
+      ap (λ t. sum (drop t ns)) position,
+    )
 
 pub length-field_widths : (desc : Desc) → length (field_widths desc) ≡ 4
 unfolding field_widths
@@ -164,7 +180,9 @@ module _ (desc : Desc) (is : HasWord desc) where
 
   pub slots_are : slots desc ≡ map (λ field. field.slot) (fields desc)
   unfolding slots
-  slots_are = cond-false (is_elements desc) (map (element_slot desc) (range_with_len 0 (sum (element_counts desc)))) (map (λ field. field.slot) (fields desc)) is.word
+  slots_are =
+      cond-false (is_elements desc) (map (element_slot desc) (range_with_len 0 (sum (element_counts desc))))
+      (map (λ field. field.slot) (fields desc)) is.word
 
   pub length-slots : length (slots desc) ≡ length (fields desc)
   length-slots = ap length slots_are ∙ length-map (fields desc) (λ field. field.slot)
@@ -180,7 +198,8 @@ module _ (desc : Desc) (is : HasWord desc) where
 
   pub slot_field : (i j : ℕ) → i < length (slots desc) → get_or (slots desc) i None ≡ Some j → HoldsField i j
   slot_field i j within here =
-      let at = is.fields.holds i j (omega (arith, length-slots)) (slot_in (fields desc) i ∙ ap (λ list. get_or list i None) (sym slots_are) ∙ here) in
+      let at = is.fields.holds i j (omega (arith, length-slots))
+      (slot_in (fields desc) i ∙ ap (λ list. get_or list i None) (sym slots_are) ∙ here) in
       record {
         listed = at.0;
         width = widths_are i ∙ sym (width_in (fields desc) i) ∙ at.1;
@@ -189,5 +208,9 @@ module _ (desc : Desc) (is : HasWord desc) where
 
   pub slot_found : (j : ℕ) → j < desc.count → (i : ℕ) × (i < length (slots desc)) × (get_or (slots desc) i None ≡ Some j)
   slot_found j listed =
-      let place = is.fields.found j listed (is.ends j listed) in
-      (place.0, omega (arith, length-slots, place.1), ap (λ list. get_or list place.0 None) slots_are ∙ sym (slot_in (fields desc) place.0) ∙ place.2)
+      let position = is.fields.found j listed (is.ends j listed) in (
+        position.0,
+        omega (arith, length-slots, position.1),
+        ap (λ list. get_or list position.0 None) slots_are
+            ∙ sym (slot_in (fields desc) position.0) ∙ position.2,
+      )

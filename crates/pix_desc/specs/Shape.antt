@@ -1,5 +1,6 @@
 -- How a pixel is stored as up to four numbers, its slots: the elements of its planes, or the fields of one word.
-use Rattle.std.specs.Prelude.{ℕ, zero, suc, ◌+◌, ◌-◌, ◌*◌, ◌/◌, Bool, false, not, ◌&&◌, if◌then◌else◌, nat_lt, nat_le, nat_eq, List, [], ◌∷◌, map, take, sum, slice_index_or, Option, Some, None}
+use Rattle.std.specs.Prelude.{ℕ, zero, suc, ◌+◌, ◌-◌, ◌*◌, ◌/◌, Bool, false, not, ◌&&◌, if◌then◌else◌, nat_lt, nat_le, nat_eq, List, []}
+use Rattle.std.specs.Prelude.{◌∷◌, map, take, sum, slice_index_or, Option, Some, None}
 use Rattle.std.specs.List.{range_with_len, find, position_or_len}
 use Rattle.pix_desc.specs.declared.desc.Desc.{Desc}
 use Rattle.pix_desc.specs.Component.{component_of, bytes_read, first_byte, count_of}
@@ -76,7 +77,9 @@ field_widths desc =
 
 -- which component each slot of a pixel holds, none for a spare one
 unfoldable pub slots : Desc → List (Option ℕ)
-slots desc = if is_elements desc then map (element_slot desc) (range_with_len 0 (sum (element_counts desc))) else map (λ field. field.slot) (fields desc)
+slots desc =
+    if is_elements desc then map (element_slot desc) (range_with_len 0 (sum (element_counts desc))) else map (λ field. field.slot)
+    (fields desc)
 
 -- whether a slot holds component j, and the position of the slot that does
 abbrev pub holds : ℕ → Option ℕ → Bool

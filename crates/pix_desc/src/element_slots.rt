@@ -28,8 +28,8 @@ fn element_index(desc: &Desc, j: u8) -> u32
     ensures { result ≡ element_index desc.now j }
 {
     let comp = component_of(desc, j);
-    let place = first_byte_index(desc, &comp) / u16::from(element_bytes(desc));
-    u32::from(total_before(&element_counts(desc), comp.plane)) + u32::from(place)
+    let in_plane = first_byte_index(desc, &comp) / u16::from(element_bytes(desc));
+    u32::from(total_before(&element_counts(desc), comp.plane)) + u32::from(in_plane)
 }
 
 /// The component that an element holds, and none where it is spare.

@@ -51,7 +51,8 @@ pub fn element_bytes(desc: &Desc) -> u8
     }
 }
 
-/// The elements of a pixel in each plane of a format that passes the check, at most four in all; a word is one.
+/// The elements of a pixel in each plane of a format that passes the check, at most four in all; a
+/// word is one.
 #[tactic(auto, unfolding(crate::specs::Shape::element_counts))]
 pub fn element_counts(desc: &Desc) -> [u8; 4]
     requires { IsValid desc.now }

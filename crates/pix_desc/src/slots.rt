@@ -1,5 +1,6 @@
 // The slots of a pixel, in either layout.
-ghost use Rattle.std.specs.Prelude.{◌≡◌, ◌<◌, ◌↔◌, IsTrue, false, nat_lt, Some, None, length, slice_index_or};
+ghost use Rattle.std.specs.Prelude.{◌≡◌, ◌<◌, ◌↔◌, IsTrue, false, nat_lt, Some, None, length};
+ghost use Rattle.std.specs.Prelude.{slice_index_or};
 ghost use Rattle.pix_desc.specs.Layouts.{IsValid, is_elements};
 ghost use Rattle.pix_desc.specs.Shape.{fields, field_widths, no_field, slots, position_of};
 

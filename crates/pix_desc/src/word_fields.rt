@@ -29,7 +29,8 @@ fn ending_at(desc: &Desc, top: u32) -> Option<u8>
     (0..desc.count).find(|j| end_of(desc, *j) == top)
 }
 
-// The greatest of the ends, from that of component `first` on, that are at or below a bit, and 0 where there is none.
+// The greatest of the ends, from that of component `first` on, that are at or below a bit, and 0
+// where there is none.
 fn end_below(desc: &Desc, first: u8, top: u32) -> u32
     ensures end { result ≡ end_below desc.now (range_with_len first (desc.now.count - first)) top }
     ensures below { result ≤ top }
@@ -65,8 +66,10 @@ fn field_below(desc: &Desc, top: u32) -> Field
 
 /// Field `i` below a bit of the word, and the field of no bits where it is not there.
 pub fn field_from(desc: &Desc, top: u32, i: u8) -> Field
-    ensures width { (most : ℕ) → i < most → result.width ≡ (slice_index_or (fields_below desc.now most top) i no_field).width }
-    ensures slot { (most : ℕ) → i < most → result.slot ≡ (slice_index_or (fields_below desc.now most top) i no_field).slot }
+    ensures width { (most : ℕ) → i < most
+        → result.width ≡ (slice_index_or (fields_below desc.now most top) i no_field).width }
+    ensures slot { (most : ℕ) → i < most
+        → result.slot ≡ (slice_index_or (fields_below desc.now most top) i no_field).slot }
 {
     if top == 0 {
         return Field {

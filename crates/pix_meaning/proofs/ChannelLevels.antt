@@ -1,5 +1,6 @@
 -- The levels of the channels: a code stands for the value of its channel, and so does the code of a missing channel.
-use Rattle.std.proofs.Common.{◌≡◌, ℕ, zero, suc, ◌+◌, ◌-◌, ◌*◌, ◌^◌, ◌<◌, ◌≤◌, ⊎_elim, Bool, true, false, ◌||◌, if◌then◌else◌, nat_eq, pos, List, [], ◌∷◌, refl, sym, ap, ◌∙◌, arith}
+use Rattle.std.proofs.Common.{◌≡◌, ℕ, zero, suc, ◌+◌, ◌-◌, ◌*◌, ◌^◌, ◌<◌, ◌≤◌, ⊎_elim, Bool, true, false, ◌||◌, if◌then◌else◌, nat_eq, pos}
+use Rattle.std.proofs.Common.{List, [], ◌∷◌, refl, sym, ap, ◌∙◌, arith}
 use Rattle.std.proofs.lemmas.Bool.{cases_Bool, cond-true, cond-false}
 use Rattle.std.proofs.lemmas.Nat.{pow_below, pow-add}
 use Rattle.frac_math.specs.Fraction.{nat, ◌*ℚ◌, ◌-ℚ◌, inverse}
@@ -27,7 +28,8 @@ middle_is : (range : Range) (depth : ℕ) → 1 ≤ depth → nat (2 ^ (depth - 
 unfolding levels scaled_to
 middle_is Full depth some = refl
 middle_is Limited depth some =
-    same _ _ _ _ _ _ (itself (nat (2 ^ (depth - 1)))) (mul_stands _ _ _ _ _ _ (over_stands (pos (2 ^ depth)) 256 (omega arith)) (itself (nat 128)))
+    same _ _ _ _ _ _ (itself (nat (2 ^ (depth - 1))))
+    (mul_stands _ _ _ _ _ _ (over_stands (pos (2 ^ depth)) 256 (omega arith)) (itself (nat 128)))
     (let one_more : depth ≡ 1 + (depth - 1) = omega arith in
     let two : 2 ^ depth ≡ 2 * 2 ^ (depth - 1) = ap (λ n. 2 ^ n) one_more ∙ pow-add 2 1 (depth - 1) in ap pos (omega arith))
 
@@ -35,12 +37,14 @@ missing_chroma : (range : Range) (depth : ℕ) → 1 ≤ depth → from_code (le
 unfolding from_code
 missing_chroma range depth some =
     ap (λ code. (code -ℚ (levels Chroma depth range).base) *ℚ inverse (levels Chroma depth range).scale) (middle_is range depth some)
-    ∙ ring fractions ((levels Chroma depth range).base ∷ inverse (levels Chroma depth range).scale ∷ []) ((var 0 ⊖ var 0) ⊗ var 1) (num (pos 0)) refl
+    ∙ ring fractions ((levels Chroma depth range).base ∷ inverse (levels Chroma depth range).scale ∷ []) ((var 0 ⊖ var 0) ⊗ var 1)
+    (num (pos 0)) refl
 
 missing_alpha : (range : Range) (depth : ℕ) → 1 ≤ depth → from_code (levels Direct depth range) (nat (2 ^ depth - 1)) ≡ nat 1
 unfolding from_code levels
 missing_alpha range depth some =
-    let inverse_is : nat (2 ^ depth - 1) *ℚ inverse (nat (2 ^ depth - 1)) ≡ nat 1 = inverse_of (nat (2 ^ depth - 1)) (2 ^ depth - 1) refl (omega (arith, pow_below 0 depth some)) in
+    let inverse_is : nat (2 ^ depth - 1) *ℚ inverse (nat (2 ^ depth - 1)) ≡ nat 1 =
+    inverse_of (nat (2 ^ depth - 1)) (2 ^ depth - 1) refl (omega (arith, pow_below 0 depth some)) in
     ring_from fractions (nat (2 ^ depth - 1) ∷ inverse (nat (2 ^ depth - 1)) ∷ []) ((var 0 ⊖ num (pos 0)) ⊗ var 1) (num (pos 1))
     (by (num (pos 1)) (var 0 ⊗ var 1) (num (pos 1)) done) (inverse_is, tt) refl
 
@@ -49,7 +53,8 @@ missing_alpha range depth some =
 -- of one that is there, they are those of its component
 pub levels_there : (side : Side) (c : ℕ) → has_channel side.desc c ≡ true → channel_levels side c ≡ levels_of side c
 levels_there side c there =
-    ap (λ depth. levels (class_of side.desc c) depth side.range) (cond-true (has_channel side.desc c) (depth_of side.desc (component_at side.desc c)) (depth_of side.desc 0) there)
+    ap (λ depth. levels (class_of side.desc c) depth side.range)
+    (cond-true (has_channel side.desc c) (depth_of side.desc (component_at side.desc c)) (depth_of side.desc 0) there)
 
 depth_missing : (desc : Desc) (c : ℕ) → has_channel desc c ≡ false → channel_depth desc c ≡ depth_of desc 0
 depth_missing desc c missing = cond-false (has_channel desc c) (depth_of desc (component_at desc c)) (depth_of desc 0) missing
@@ -61,15 +66,19 @@ left_false false b h = refl
 
 -- ---- the value of a missing channel
 missing_value : (side : Side) (c : ℕ) → IsValid side.desc → c < 4 → has_channel side.desc c ≡ false
-    → from_code (levels (class_of side.desc c) (depth_of side.desc 0) side.range) (nat (missing_code side.desc c)) ≡ (if nat_eq c 3 then nat 1 else nat 0)
+    → from_code (levels (class_of side.desc c) (depth_of side.desc 0) side.range) (nat (missing_code side.desc c))
+    ≡ (if nat_eq c 3 then nat 1 else nat 0)
 missing_value side zero valid below missing = absurd cc
 missing_value side (suc zero) valid below missing =
-    ap (λ b. from_code (levels (if b then Direct else Chroma) (depth_of side.desc 0) side.range) (nat (2 ^ (depth_of side.desc 0 - 1)))) (left_false (is_rgb side.desc) _ missing)
+    ap (λ b. from_code (levels (if b then Direct else Chroma) (depth_of side.desc 0) side.range) (nat (2 ^ (depth_of side.desc 0 - 1))))
+    (left_false (is_rgb side.desc) _ missing)
     ∙ missing_chroma side.range (depth_of side.desc 0) (depth_positive side.desc valid)
 missing_value side (suc (suc zero)) valid below missing =
-    ap (λ b. from_code (levels (if b then Direct else Chroma) (depth_of side.desc 0) side.range) (nat (2 ^ (depth_of side.desc 0 - 1)))) (left_false (is_rgb side.desc) _ missing)
+    ap (λ b. from_code (levels (if b then Direct else Chroma) (depth_of side.desc 0) side.range) (nat (2 ^ (depth_of side.desc 0 - 1))))
+    (left_false (is_rgb side.desc) _ missing)
     ∙ missing_chroma side.range (depth_of side.desc 0) (depth_positive side.desc valid)
-missing_value side (suc (suc (suc zero))) valid below missing = missing_alpha side.range (depth_of side.desc 0) (depth_positive side.desc valid)
+missing_value side (suc (suc (suc zero))) valid below missing =
+    missing_alpha side.range (depth_of side.desc 0) (depth_positive side.desc valid)
 missing_value side (suc (suc (suc (suc c)))) valid below missing = absurd (omega arith)
 
 value_missing : (side : Side) (width rows : ℕ) (frame : List ℕ) (x row c : ℕ) → has_channel side.desc c ≡ false
@@ -87,8 +96,10 @@ code_means side width rows frame x row c valid below =
     ∙ ap (λ code. from_code (levels_of side c) (nat code)) (code_of-there side.desc width rows frame x row c there)
     ∙ sym (value_there side width rows frame x row c there))
     (λ (missing : has_channel side.desc c ≡ false).
-    ap (λ depth. from_code (levels (class_of side.desc c) depth side.range) (nat (code_of side.desc width rows frame x row c))) (depth_missing side.desc c missing)
-    ∙ ap (λ code. from_code (levels (class_of side.desc c) (depth_of side.desc 0) side.range) (nat code)) (code_of-missing side.desc width rows frame x row c missing)
+    ap (λ depth. from_code (levels (class_of side.desc c) depth side.range) (nat (code_of side.desc width rows frame x row c)))
+    (depth_missing side.desc c missing)
+    ∙ ap (λ code. from_code (levels (class_of side.desc c) (depth_of side.desc 0) side.range) (nat code))
+    (code_of-missing side.desc width rows frame x row c missing)
     ∙ missing_value side c valid below missing
     ∙ value_missing side width rows frame x row c missing)
     (cases_Bool (has_channel side.desc c))

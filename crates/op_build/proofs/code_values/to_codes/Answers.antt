@@ -6,7 +6,8 @@ use Rattle.op_build.specs.Recipe.{diagonal, to_codes}
 use Rattle.op_build.specs.Recipe.{are_plain}
 use Rattle.op_build.proofs.code_values.to_codes.Goals as goal
 
-linear_to : (side : Side) → are_plain (channel_levels side) ≡ false → Linear (diagonal (λ c. (channel_levels side c).scale) (λ c. (channel_levels side c).base)) ≡ to_codes side
+linear_to : (side : Side) → are_plain (channel_levels side) ≡ false
+    → Linear (diagonal (λ c. (channel_levels side c).scale) (λ c. (channel_levels side c).base)) ≡ to_codes side
 unfolding to_codes
 linear_to side h = rw h refl
 

@@ -6,4 +6,5 @@ pub power-requires : goal.power-requires
 power-requires c = omega (arith, c.depth_of-depth.ensures, first_depth_small c.args.desc.now c.requires)
 
 pub power-requires-else-c-eq3 : goal.power-requires-else-c-eq3
-power-requires-else-c-eq3 c = omega (arith, c.saturating_sub-below.ensures, c.depth_of-depth.ensures, first_depth_small c.args.desc.now c.requires)
+power-requires-else-c-eq3 c =
+    omega (arith, c.saturating_sub-below.ensures, c.depth_of-depth.ensures, first_depth_small c.args.desc.now c.requires)

@@ -16,7 +16,8 @@ returns c =
     let low = Max (limits to.desc (λ k. nat 0)) in
     let high = Min (limits to.desc (λ k. nat (2 ^ channel_depth to.desc k - 1))) in
     let rest = Some (to_codes to) ∷ Some (Dither c.args.pair.now.dither) ∷ Some low ∷ Some high ∷ [] in
-    let both = operations-if-if (not (is_rgb from.desc)) (not (is_rgb to.desc)) (Linear (over_three (to_rgb_rows from.matrix))) (Linear (over_three (from_rgb_rows to.matrix))) rest in
+    let both = operations-if-if (not (is_rgb from.desc)) (not (is_rgb to.desc)) (Linear (over_three (to_rgb_rows from.matrix)))
+    (Linear (over_three (from_rgb_rows to.matrix))) rest in
     rw (
       c.from_codes.ensures,
       c.step_if.ensures,

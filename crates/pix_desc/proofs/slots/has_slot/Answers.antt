@@ -11,4 +11,5 @@ returns-then-is_elements c =
 
 pub returns-else-is_elements : goal.returns-else-is_elements
 returns-else-is_elements c =
-    ap (nat_lt 0) c.word_field.ensures.width ∙ field_there c.args.desc.now c.requires.valid (sym c.is_elements.ensures ∙ c.if-is_elements.false) c.args.p
+    ap (nat_lt 0) c.word_field.ensures.width
+    ∙ field_there c.args.desc.now c.requires.valid (sym c.is_elements.ensures ∙ c.if-is_elements.false) c.args.p

@@ -2,16 +2,16 @@
 ghost use Rattle.std.specs.Prelude.{◌≡◌, ◌<◌, None, slice_index_or};
 ghost use Rattle.pix_desc.specs.Layouts.{IsValid};
 ghost use Rattle.pix_desc.specs.Shape.{slots};
-ghost use Rattle.op_build.specs.Recipe.{source_of, to_places, spare_zero, spare_zeros};
+ghost use Rattle.op_build.specs.Recipe.{source_of, slot_channels, spare_zero, spare_zeros};
 
 use frac_math::Frac;
 use pix_desc::{Desc, has_slot, slot_at};
 use pix_meaning::channel_of;
 
-// The channel that goes to a place, or what stands there where it is spare.
-fn to_place(desc: &Desc, p: u8) -> u8
+// The channel that goes to a slot, or what stands there where it is spare.
+fn slot_channel(desc: &Desc, p: u8) -> u8
     requires valid { IsValid desc.now }
-    requires place { p < 4 }
+    requires slot { p < 4 }
     ensures { result ≡ source_of desc.now p (slice_index_or (slots desc.now) p None) }
 {
     match slot_at(desc, p) {
@@ -20,23 +20,23 @@ fn to_place(desc: &Desc, p: u8) -> u8
     }
 }
 
-/// The channels that go to the places of a pixel.
-pub fn to_places(desc: &Desc) -> [u8; 4]
+/// The channels that go to the slots of a pixel.
+pub fn slot_channels(desc: &Desc) -> [u8; 4]
     requires { IsValid desc.now }
-    ensures { result ≡ to_places desc.now }
+    ensures { result ≡ slot_channels desc.now }
 {
     [
-        to_place(desc, 0),
-        to_place(desc, 1),
-        to_place(desc, 2),
-        to_place(desc, 3),
+        slot_channel(desc, 0),
+        slot_channel(desc, 1),
+        slot_channel(desc, 2),
+        slot_channel(desc, 3),
     ]
 }
 
-// 0 for a spare place that is there.
+// 0 for a spare slot that is there.
 fn spare_zero(desc: &Desc, p: u8) -> Option<Frac>
     requires valid { IsValid desc.now }
-    requires place { p < 4 }
+    requires slot { p < 4 }
     ensures { result ≡ spare_zero desc.now p (slice_index_or (slots desc.now) p None) }
 {
     match slot_at(desc, p) {
@@ -49,7 +49,7 @@ fn spare_zero(desc: &Desc, p: u8) -> Option<Frac>
     }
 }
 
-/// 0 for the spare places that are there.
+/// 0 for the spare slots that are there.
 pub fn spare_zeros(desc: &Desc) -> [Option<Frac>; 4]
     requires { IsValid desc.now }
     ensures { result ≡ spare_zeros desc.now }
