@@ -1,8 +1,7 @@
 //! What a conversion of a frame between two pixel formats means, in exact fractions.
 //!
 //! The definitions are to be read in the order of `specs/Pairs`, `specs/Values` and `specs/Target`;
-//! `specs/Examples` has
-//! conversions byte by byte.
+//! `specs/Examples` has conversions byte by byte.
 #![tactic(auto)]
 
 mod channel;
