@@ -7,10 +7,12 @@
 mod channel;
 pub mod laws;
 mod pair;
+mod side_levels;
 #[cfg(test)]
 mod tests;
 mod valid;
 
-pub use channel::is_rgb;
+pub use channel::{channel_depth, channel_of, component_at, depth_of, has_channel, is_rgb};
 pub use pair::{Pair, Side};
+pub use side_levels::channel_levels;
 pub use valid::pair_valid;
