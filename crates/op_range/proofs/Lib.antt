@@ -9,3 +9,4 @@ pub mod FractionRanges
 pub mod RangeSteps
 pub mod SmallSteps
 pub mod States
+pub mod Compared

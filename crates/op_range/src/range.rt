@@ -11,3 +11,6 @@ pub struct ValueRange {
     /// Where it is true, the value is a whole number.
     pub whole: bool,
 }
+
+/// What is known of the four values.
+pub type Ranges = [ValueRange; 4];
