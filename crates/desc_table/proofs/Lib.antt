@@ -1,3 +1,3 @@
 pub mod Rows
-pub mod Found
+pub mod Lookup
 pub mod Sorted

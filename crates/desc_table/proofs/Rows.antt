@@ -7,7 +7,7 @@ use Rattle.pix_desc.specs.Component.{components}
 use Rattle.std.proofs.lemmas.List.{get_or-map, length-map}
 use Rattle.pix_desc.specs.Layouts.{checked, IsValid}
 use Rattle.desc_table.specs.Format.{Format, four_entries, formats, format_count, format_at, no_format}
-use Rattle.desc_table.specs.Refused.{refused, found}
+use Rattle.desc_table.specs.Refused.{refused, lookup}
 use Rattle.desc_table.specs.declared.fault.FormatFault.{FormatFault}
 use Rattle.desc_table.specs.Layout.{layout_of, word_formats}
 use Rattle.desc_table.specs.Row.{format_of}
@@ -38,19 +38,19 @@ format_of-get_or rows row d same below =
     sym (get_or-map format_of rows row d no_format at) ∙ ap (λ (fs : List Format). get_or fs row no_format) same
 
 -- each name finds its row
-names_computed : map (λ format. found format.name) formats ≡ map (λ row. Ok row) (range_with_len 0 format_count)
-unfolding formats refused found
+names_computed : map (λ format. lookup format.name) formats ≡ map (λ row. Ok row) (range_with_len 0 format_count)
+unfolding formats refused lookup
 names_computed = refl
 
-pub found-name_of : (row : ℕ) → row < format_count → found (format_at row).name ≡ Ok row
+pub lookup-name_of : (row : ℕ) → row < format_count → lookup (format_at row).name ≡ Ok row
 unfolding format_at
-found-name_of row below =
+lookup-name_of row below =
     let at : row < length formats = omega (arith, length-formats) in
-    sym (get_or-map (λ format. found format.name) formats row no_format (Ok row) at) ∙ (ap (λ (answers : List (Result ℕ FormatFault)). get_or answers row (Ok row)) names_computed ∙ get_or-map-range_with_len (λ row. Ok row) 0 format_count row row (Ok row) below (omega arith))
+    sym (get_or-map (λ format. lookup format.name) formats row no_format (Ok row) at) ∙ (ap (λ (answers : List (Result ℕ FormatFault)). get_or answers row (Ok row)) names_computed ∙ get_or-map-range_with_len (λ row. Ok row) 0 format_count row row (Ok row) below (omega arith))
 
 -- each refused name finds its fault
-pub refusals_computed : map (λ refusal. found refusal.name) refused ≡ map (λ refusal. Err refusal.fault) refused
-unfolding formats refused found
+pub refusals_computed : map (λ refusal. lookup refusal.name) refused ≡ map (λ refusal. Err refusal.fault) refused
+unfolding formats refused lookup
 refusals_computed = refl
 
 -- the big-endian formats are those whose name ends in `be`

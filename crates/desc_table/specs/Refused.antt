@@ -40,5 +40,5 @@ row_or_fault None (Some refusal) = Err refusal.fault
 row_or_fault None None = Err Unknown
 
 -- what a name finds: the first row that has it, else the fault of the first refused name that is it, else `Unknown`
-unfoldable pub found : List ℕ → Result ℕ FormatFault
-found name = row_or_fault (position (λ format. bytes_eq format.name name) formats) (find (λ refusal. bytes_eq refusal.name name) refused)
+unfoldable pub lookup : List ℕ → Result ℕ FormatFault
+lookup name = row_or_fault (position (λ format. bytes_eq format.name name) formats) (find (λ refusal. bytes_eq refusal.name name) refused)

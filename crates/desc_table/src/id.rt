@@ -2,7 +2,7 @@
 ghost use Rattle.std.specs.Prelude.{◌≡◌, ◌<◌, ◌≤◌, ◌↔◌, ℕ, IsNone, IfSome, IfOk, Ok};
 ghost use Rattle.pix_desc.specs.Layouts.{IsValid};
 ghost use Rattle.desc_table.specs.Format.{format_count, desc_of, name_of};
-ghost use Rattle.desc_table.specs.Refused.{found};
+ghost use Rattle.desc_table.specs.Refused.{lookup};
 
 use crate::fault::FormatFault;
 use crate::names::row_of;
@@ -28,7 +28,7 @@ impl Model for FormatId {
 
 /// The format of this name, or why there is none. It allocates nothing, and compares some nine names.
 pub fn find(name: &str) -> Result<FormatId, FormatFault>
-    ensures value { result ≡ found name.now }
+    ensures value { result ≡ lookup name.now }
     ensures below { IfOk result (λ id. id < format_count) }
     ensures named { IfOk result (λ id. name_of id ≡ name.now) }
 {
@@ -66,7 +66,7 @@ pub fn index(id: FormatId) -> usize
 /// FFmpeg's name of a format.
 pub fn name(id: FormatId) -> &'static str
     ensures value { result.now ≡ name_of id }
-    ensures found { found result.now ≡ Ok id }
+    ensures lookup { lookup result.now ≡ Ok id }
 {
     row_at(index(id)).name
 }

@@ -1,11 +1,11 @@
-// What holds of the whole table.
+//! Laws of the whole table: each is the contract of a function without a body.
 ghost use Rattle.std.specs.Prelude.{◌≡◌, ℕ, ◌<◌, All, Ok, Err, codes, nat_eq};
 ghost use Rattle.std.specs.List.{ends_with};
 ghost use Rattle.pix_desc.specs.Component.{components};
 ghost use Rattle.pix_desc.specs.Layouts.{checked};
 ghost use Rattle.desc_table.specs.Format.{format_count, four_entries, desc_of, name_of};
 ghost use Rattle.desc_table.specs.Layout.{layout_of};
-ghost use Rattle.desc_table.specs.Refused.{refused, found};
+ghost use Rattle.desc_table.specs.Refused.{refused, lookup};
 
 /// Every format passes the check, and has the layout that is said of its name.
 pub fn layouts()
@@ -14,8 +14,8 @@ pub fn layouts()
 
 /// No two formats have one name, and no refused name is that of a format.
 pub fn names_differ()
-    ensures rows { (row : ℕ) → row < format_count → found (name_of row) ≡ Ok row }
-    ensures refusals { All (λ refusal. found refusal.name ≡ Err refusal.fault) refused }
+    ensures rows { (row : ℕ) → row < format_count → lookup (name_of row) ≡ Ok row }
+    ensures refusals { All (λ refusal. lookup refusal.name ≡ Err refusal.fault) refused }
     ensures different { (i j : ℕ) → i < format_count → j < format_count → name_of i ≡ name_of j → i ≡ j }
 {}
 

@@ -1,7 +1,7 @@
 // Every known name, and what it finds.
 ghost use Rattle.std.specs.Prelude.{◌≡◌, IsTrue, map, bytes_eq};
 ghost use Rattle.std.specs.List.{list_all, list_any};
-ghost use Rattle.desc_table.specs.Refused.{found};
+ghost use Rattle.desc_table.specs.Refused.{lookup};
 ghost use Rattle.desc_table.specs.Names.{rises, known_names};
 
 use crate::fault::FormatFault::{self, Bitstream, FloatFormat, OtherUnsupported, Subsampled};
@@ -234,7 +234,7 @@ static NAMES: [Known; 218] = [
 // Each name comes before the next, each has what it finds, and every known name is there.
 fn names() -> &'static [Known]
     ensures ordered { IsTrue (rises (map (λ known. known.0.now) result.now)) }
-    ensures answers { map (λ known. found known.0.now) result.now ≡ map (λ known. known.1) result.now }
+    ensures answers { map (λ known. lookup known.0.now) result.now ≡ map (λ known. known.1) result.now }
     ensures complete { IsTrue (list_all (λ name. list_any (λ known. bytes_eq known.0.now name) result.now) known_names) }
 {
     &NAMES
@@ -242,7 +242,7 @@ fn names() -> &'static [Known]
 
 /// The row of a name, or the reason why it has none.
 pub fn row_of(name: &str) -> Result<u8, FormatFault>
-    ensures { result ≡ found name.now }
+    ensures { result ≡ lookup name.now }
 {
     let known = names();
     match known.binary_search_by_key(&name, |entry| entry.0) {

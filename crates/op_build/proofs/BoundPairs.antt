@@ -15,7 +15,7 @@ use Rattle.pix_meaning.specs.declared.pair.Pair.{Pair}
 use Rattle.pix_meaning.specs.Pairs.{is_rgb}
 use Rattle.op_list.specs.declared.types.PixType.TheVariants.{Rat}
 use Rattle.op_list.specs.declared.types.Stage.{Stage}
-use Rattle.op_list.specs.declared.place.Place.{Place}
+use Rattle.op_list.specs.declared.position.PixelPosition.{PixelPosition}
 use Rattle.op_list.specs.declared.op.Op.{Op}
 use Rattle.op_list.specs.declared.op.Op.TheVariants.{Convert, Linear, Dither, Max, Min}
 use Rattle.op_list.specs.declared.values.Values.TheVariants.{Numbers, Fractions}
@@ -171,7 +171,7 @@ codes_bounded code depth h = record {
       (nat_bound (code 2) (2 ^ depth 2 - 1) (omega (arith, h 2 (omega arith)))) (nat_bound (code 3) (2 ^ depth 3 - 1) (omega (arith, h 3 (omega arith))));
 }
 
-converted_there : (frame : List ℕ) (place : Place) (stage : Stage) (ops : List Op) (code depth : ℕ → ℕ) (last : List FractionBound) → ((c : ℕ) → c < 4 → code c < 2 ^ depth c)
+converted_there : (frame : List ℕ) (place : PixelPosition) (stage : Stage) (ops : List Op) (code depth : ℕ → ℕ) (last : List FractionBound) → ((c : ℕ) → c < 4 → code c < 2 ^ depth c)
     → bounds_from ops (code_bounds depth) ≡ Some last
     → checked_run_from frame place stage (Convert Rat Bool.false ∷ ops) (Numbers (four code)) ≡ Some (run_from frame place stage (Convert Rat Bool.false ∷ ops) (Numbers (four code)))
 unfolding checked_run_from run_from checked_apply apply
@@ -179,7 +179,7 @@ converted_there frame place stage ops code depth last h is =
     (run_there frame place (stage_after stage (Convert Rat Bool.false)) ops (Fractions (four (λ c. nat (code c)))) (code_bounds depth) last (codes_bounded code depth h) is).there
 
 -- the checked conversion gives what the exact one gives
-pub converting_is_there : (pair : Pair) (frame : List ℕ) (place : Place) (stage : Stage) (code : ℕ → ℕ)
+pub converting_is_there : (pair : Pair) (frame : List ℕ) (place : PixelPosition) (stage : Stage) (code : ℕ → ℕ)
     → IsOneOf (side_class pair.from) side_classes → IsOneOf (side_class pair.to) side_classes → pair.dither ≤ 4
     → ((c : ℕ) → c < 4 → code c < 2 ^ channel_depth pair.from.desc c)
     → checked_run_from frame place stage (convert pair) (Numbers (four code)) ≡ Some (run_from frame place stage (convert pair) (Numbers (four code)))

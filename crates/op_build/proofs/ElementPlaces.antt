@@ -9,12 +9,12 @@ use Rattle.std.proofs.lemmas.List.Sums.{sum_by_more_le}
 use Rattle.std.proofs.lemmas.Nat.{le-div, div-add-mod'}
 use Rattle.pix_desc.specs.declared.desc.Comp.{Comp}
 use Rattle.pix_desc.specs.declared.desc.Desc.{Desc}
-use Rattle.pix_desc.specs.Component.{components, component_of, no_component, is_narrow, bytes_read, first_byte, count_of, bit_place}
+use Rattle.pix_desc.specs.Component.{components, component_of, no_component, is_narrow, bytes_read, first_byte, count_of, bit_position}
 use Rattle.pix_desc.specs.Frame.{plane_step}
 use Rattle.pix_desc.specs.Layouts.{IsLaidOut, is_elements, some_pair, one_a_plane}
 use Rattle.pix_desc.proofs.ComponentLists.{some_pair-false, list_all-map_true, get_or-components, length-components}
 use Rattle.pix_desc.proofs.BitsOfBytes.{byte_of}
-use Rattle.pix_desc.proofs.FramePlaces.{bit_place_is}
+use Rattle.pix_desc.proofs.BitPositions.{bit_position_is}
 use Rattle.op_build.specs.Shape.{element_bytes, element_counts, element_index, element_slot, slots, fields}
 use Rattle.op_build.proofs.Lists.{find_only, found_passes}
 use Rattle.op_build.proofs.Counts.{count_at, length-counts}
@@ -138,18 +138,18 @@ module _ (desc : Desc) (size : ℕ) (laid : IsLaidOut desc) (is : HasElements de
 
   -- two components of one element read the same bits
   same_place : (i j : ℕ) → i < desc.count → j < desc.count → count_of (first_byte desc (component_of desc i)) ≡ count_of (first_byte desc (component_of desc j))
-      → bit_place desc (component_of desc i) 0 ≡ bit_place desc (component_of desc j) 0
+      → bit_position desc (component_of desc i) 0 ≡ bit_position desc (component_of desc j) 0
   same_place i j listed also same =
       let a = component_of desc i in
       let b = component_of desc j in
       let shift : a.shift ≡ b.shift = is.shift i listed ∙ sym (is.shift j also) in
       let depth : a.depth ≡ b.depth = is.depth i listed ∙ sym (is.depth j also) in
       let narrow : is_narrow a ≡ is_narrow b = ap (λ s. nat_le (s + a.depth) 8) shift ∙ ap (λ d. nat_le (b.shift + d) 8) depth in
-      bit_place_is desc a 0 (laid.first i listed)
+      bit_position_is desc a 0 (laid.first i listed)
       ∙ ap (λ first. pos (8 * (first + byte_of (is_narrow a) desc.be (a.shift + 0)) + (a.shift + 0) % 8)) same
       ∙ ap (λ v. pos (8 * (count_of (first_byte desc b) + byte_of v desc.be (a.shift + 0)) + (a.shift + 0) % 8)) narrow
       ∙ ap (λ s. pos (8 * (count_of (first_byte desc b) + byte_of (is_narrow b) desc.be (s + 0)) + (s + 0) % 8)) shift
-      ∙ sym (bit_place_is desc b 0 (laid.first j also))
+      ∙ sym (bit_position_is desc b 0 (laid.first j also))
 
   pub element_index-apart : (i j : ℕ) → i < desc.count → j < desc.count → i ≢ j → element_index desc i ≢ element_index desc j
   element_index-apart i j first second differ same =

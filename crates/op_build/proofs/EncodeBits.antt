@@ -8,7 +8,7 @@ use Rattle.pix_desc.specs.declared.desc.Desc.{Desc}
 use Rattle.pix_desc.specs.Component.{component_of, first_byte, count_of, bit_of}
 use Rattle.pix_desc.specs.Frame.{plane_step, row_start, reads_pixel_bit, IsFrameOf}
 use Rattle.pix_desc.specs.Layouts.{IsLaidOut}
-use Rattle.pix_desc.proofs.FramePlaces.{place_of, bit_place_is, same_place, byte_below}
+use Rattle.pix_desc.proofs.BitPositions.{position_of, bit_position_is, same_position, byte_below}
 use Rattle.pix_desc.proofs.FrameReads.{IsReadBy, read_by, frame_bit_by}
 use Rattle.op_list.specs.Pixel.{number_at}
 use Rattle.op_build.specs.Shape.{element_counts, element_index}
@@ -62,7 +62,7 @@ module _ (desc : Desc) (width rows x row : ℕ) (value : ℕ → ℕ → ℕ →
         omega (arith, mul-add-lt r size (bit_in_order desc.be size m / 8) (plane_step desc p / size) count byte, whole_steps desc size laid is p)
 
     -- where a component has its bits
-    component_bits : (j b : ℕ) → j < desc.count → b < (component_of desc j).depth → place_of desc (component_of desc j) ((component_of desc j).shift + b)
+    component_bits : (j b : ℕ) → j < desc.count → b < (component_of desc j).depth → position_of desc (component_of desc j) ((component_of desc j).shift + b)
         ≡ 8 * count_of (first_byte desc (component_of desc j)) + bit_in_order desc.be size ((component_of desc j).shift + b)
     component_bits j b listed inside =
         number_place desc laid j listed b inside
@@ -77,7 +77,7 @@ module _ (desc : Desc) (width rows x row : ℕ) (value : ℕ → ℕ → ℕ →
         let c = component_of desc j in
         let first = count_of (first_byte desc c) in
         let at : 8 * first + bit_in_order desc.be size (c.shift + b) ≡ place m =
-        sym (component_bits j b by.listed by.inside) ∙ same_place desc c b (place m) (laid.first j by.listed) by.at in
+        sym (component_bits j b by.listed by.inside) ∙ same_position desc c b (place m) (laid.first j by.listed) by.at in
         let within = bit_within j b by.listed by.inside in
         let whole : first ≡ first / size * size = omega (arith, div-add-mod' first size, is.first j by.listed) in
         let both : first / size * (8 * size) + bit_in_order desc.be size (c.shift + b) ≡ r * (8 * size) + bit_in_order desc.be size m = omega (arith, at, ap (λ n. 8 * n) whole) in
@@ -109,7 +109,7 @@ module _ (desc : Desc) (width rows x row : ℕ) (value : ℕ → ℕ → ℕ →
         let c = component_of desc j in
         let first = count_of (first_byte desc c) in
         let whole : first ≡ r * size = omega (arith, div-add-mod' first size, is.first j listed, ap (λ q. q * size) index) in
-        let at : place_of desc c (c.shift + b) ≡ place (c.shift + b) = component_bits j b listed inside ∙ ap (λ f. 8 * f + bit_in_order desc.be size (c.shift + b)) whole in
+        let at : position_of desc c (c.shift + b) ≡ place (c.shift + b) = component_bits j b listed inside ∙ ap (λ f. 8 * f + bit_in_order desc.be size (c.shift + b)) whole in
         let by : IsReadBy desc p (place (c.shift + b)) j b =
-        record { listed = listed; there = plane; inside = inside; at = bit_place_is desc c b (laid.first j listed) ∙ ap pos at } in
+        record { listed = listed; there = plane; inside = inside; at = bit_position_is desc c b (laid.first j listed) ∙ ap pos at } in
         bit_placed (c.shift + b) (bit_within j b listed inside) ∙ read_bit p (place (c.shift + b)) j b by

@@ -13,11 +13,11 @@ use Rattle.pix_desc.specs.Component.{component_of, bit_of}
 use Rattle.pix_desc.specs.Frame.{plane_step, row_start, reads_pixel_bit, IsFrameOf}
 use Rattle.pix_desc.specs.Layouts.{IsLaidOut, is_elements, word_shift}
 use Rattle.pix_desc.proofs.Bits.{bit_at_field}
-use Rattle.pix_desc.proofs.FramePlaces.{byte_below, same_place}
+use Rattle.pix_desc.proofs.BitPositions.{byte_below, same_position}
 use Rattle.pix_desc.proofs.FrameReads.{read_by}
 use Rattle.pix_desc.proofs.Valid.{laid_out}
 use Rattle.op_list.specs.declared.op.Op.TheVariants.{LeftShift, Pack}
-use Rattle.op_list.specs.declared.place.Place.{Place}
+use Rattle.op_list.specs.declared.position.PixelPosition.{PixelPosition}
 use Rattle.op_list.specs.declared.types.PixType.TheVariants.{Rat}
 use Rattle.op_list.specs.declared.types.Stage.TheVariants.{Typed}
 use Rattle.op_list.specs.declared.values.Values.TheVariants.{Numbers, Fractions}
@@ -40,7 +40,7 @@ use Rattle.op_build.proofs.EncodePacked.{packed_fields}
 use Rattle.op_build.proofs.EncodePlaces.{fits_type, spare_place, component_place}
 use Rattle.op_build.proofs.EncodeRuns.{encode_by, placed_code, run_pack}
 use Rattle.op_build.proofs.FieldValues.{word_field}
-use Rattle.op_build.proofs.Lists.{get_or-four}
+use Rattle.op_list.proofs.Four.{get_or-four}
 use Rattle.op_build.proofs.Shapes.{has_places, component_field, word_type_is}
 use Rattle.op_build.proofs.WordBits.{bit_in_order, word_place, word_end}
 use Rattle.op_build.proofs.WordShape.{HasWord, sum-widths, length-field_widths, rest_below}
@@ -70,7 +70,7 @@ no_width : (desc : Desc) (p : ℕ) → p < 4 → length (fields desc) ≤ p → 
 unfolding field_widths
 no_width desc p below past = get_or-four (λ k. (get_or (fields desc) k no_field).width) p 0 below ∙ ap (λ f. f.width) (get_or_past (fields desc) p no_field past)
 
-module _ (desc : Desc) (place : Place) (value : ℕ → ℕ → ℕ → ℕ) (vs : ℕ → ℚ) (gives : GivesValues desc place value vs) (is : HasWord desc) where
+module _ (desc : Desc) (place : PixelPosition) (value : ℕ → ℕ → ℕ → ℕ) (vs : ℕ → ℚ) (gives : GivesValues desc place value vs) (is : HasWord desc) where
   abbrev laid : IsLaidOut desc
   laid = laid_out desc gives.valid
 
@@ -153,7 +153,7 @@ module _ (desc : Desc) (place : Place) (value : ℕ → ℕ → ℕ → ℕ) (vs
       let c = component_of desc j in
       let at : bit_in_order desc.be size (word_shift desc c + b) ≡ k =
       ap (λ s. bit_in_order desc.be s (word_shift desc c + b)) (sym (is.step j by.listed))
-      ∙ sym (word_place desc laid j by.listed b by.inside) ∙ same_place desc c b k (laid.first j by.listed) by.at in
+      ∙ sym (word_place desc laid j by.listed b by.inside) ∙ same_position desc c b k (laid.first j by.listed) by.at in
       let ends : word_shift desc c + b < 8 * size = omega (arith, word_end desc laid j by.listed, is.step j by.listed, by.inside) in
       let same : word_shift desc c + b ≡ m = bit_in_order-apart desc.be size (word_shift desc c + b) m ends bound at in
       let places = has_places desc gives.valid in

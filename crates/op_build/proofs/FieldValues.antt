@@ -8,7 +8,7 @@ use Rattle.pix_desc.specs.Component.{component_of, bytes_read, first_byte, count
 use Rattle.pix_desc.specs.Frame.{row_start, frame_component}
 use Rattle.pix_desc.specs.Layouts.{IsLaidOut, word_shift}
 use Rattle.pix_desc.proofs.Bits.{bit_at_field}
-use Rattle.pix_desc.proofs.FramePlaces.{place_of, bit_place_is, byte_below, frame_bit, frame_component_below}
+use Rattle.pix_desc.proofs.BitPositions.{position_of, bit_position_is, byte_below, frame_bit, frame_component_below}
 use Rattle.op_list.specs.Pixel.{number_at}
 use Rattle.op_build.proofs.ByteNumbers.{in_order, bit_at_in_order}
 use Rattle.op_build.proofs.WordBits.{bit_in_order, word_place, word_end, number_place, number_end}
@@ -20,7 +20,7 @@ module _ (desc : Desc) (width rows : ℕ) (frame : List ℕ) (j x row : ℕ) (la
 
   -- a field that has the component's bits, in order
   same_field : (count at shift : ℕ) → shift + (component_of desc j).depth ≤ 8 * count
-      → ((i : ℕ) → i < (component_of desc j).depth → 8 * at + bit_in_order desc.be count (shift + i) ≡ 8 * pixel_start + place_of desc (component_of desc j) ((component_of desc j).shift + i))
+      → ((i : ℕ) → i < (component_of desc j).depth → 8 * at + bit_in_order desc.be count (shift + i) ≡ 8 * pixel_start + position_of desc (component_of desc j) ((component_of desc j).shift + i))
       → in_order desc.be count (number_at count frame at) / 2 ^ shift % 2 ^ (component_of desc j).depth ≡ frame_component desc width rows frame j x row
   same_field count at shift within same =
       let c = component_of desc j in
@@ -31,7 +31,7 @@ module _ (desc : Desc) (width rows : ℕ) (frame : List ℕ) (j x row : ℕ) (la
       bit_at_field number shift c.depth i inside
       ∙ bit_at_in_order frame desc.be count at (shift + i) (λ k. byte_below frame k bytes) (omega arith)
       ∙ ap (bit_of frame) (same i inside)
-      ∙ sym (frame_bit desc width rows frame j x row i (place_of desc c (c.shift + i)) laid bytes listed inside (bit_place_is desc c i (laid.first j listed))))
+      ∙ sym (frame_bit desc width rows frame j x row i (position_of desc c (c.shift + i)) laid bytes listed inside (bit_position_is desc c i (laid.first j listed))))
 
   -- of the number that it is read from
   pub element_field : in_order desc.be (bytes_read (component_of desc j)) (number_at (bytes_read (component_of desc j)) frame (pixel_start + count_of (first_byte desc (component_of desc j))))

@@ -4,7 +4,7 @@ use Rattle.pix_desc.specs.declared.desc.Desc.{Desc}
 use Rattle.pix_desc.specs.Component.{component_of, is_narrow, bytes_read, first_byte, count_of}
 use Rattle.pix_desc.specs.Layouts.{IsLaidOut, word_shift}
 use Rattle.pix_desc.proofs.BitsOfBytes.{bits_of, byte_of}
-use Rattle.pix_desc.proofs.FramePlaces.{place_of, bit_place_is, fits_bits}
+use Rattle.pix_desc.proofs.BitPositions.{position_of, bit_position_is, fits_bits}
 
 -- bit m of a number of so many bytes is this bit of them, counted from the lowest bit of the first byte
 abbrev pub bit_in_order : Bool → ℕ → ℕ → ℕ
@@ -40,7 +40,7 @@ bits_of_bytes false = refl
 module _ (desc : Desc) (laid : IsLaidOut desc) (j : ℕ) (listed : j < desc.count) where
   -- bit i of a component is bit `word_shift + i` of the word
   pub word_place : (i : ℕ) → i < (component_of desc j).depth
-      → place_of desc (component_of desc j) ((component_of desc j).shift + i) ≡ bit_in_order desc.be (component_of desc j).step (word_shift desc (component_of desc j) + i)
+      → position_of desc (component_of desc j) ((component_of desc j).shift + i) ≡ bit_in_order desc.be (component_of desc j).step (word_shift desc (component_of desc j) + i)
   word_place i inside =
       let c = component_of desc j in
       let fits : c.shift + i < bits_of (is_narrow c) = omega (arith, fits_bits (c.shift + c.depth) (laid.bits j listed)) in
@@ -48,7 +48,7 @@ module _ (desc : Desc) (laid : IsLaidOut desc) (j : ℕ) (listed : j < desc.coun
       ∙ ap (bit_in_order desc.be c.step) (omega arith)
 
   -- and bit `shift + i` of the number that it is read from
-  pub number_place : (i : ℕ) → i < (component_of desc j).depth → place_of desc (component_of desc j) ((component_of desc j).shift + i)
+  pub number_place : (i : ℕ) → i < (component_of desc j).depth → position_of desc (component_of desc j) ((component_of desc j).shift + i)
       ≡ 8 * count_of (first_byte desc (component_of desc j)) + bit_in_order desc.be (bytes_read (component_of desc j)) ((component_of desc j).shift + i)
   number_place i inside =
       let c = component_of desc j in
@@ -73,10 +73,10 @@ pub word_apart : (desc : Desc) (i j a b : ℕ) → IsLaidOut desc → i < desc.c
 word_apart desc i j a b laid first second differ plane step in_first in_second same =
     let c = component_of desc i in
     let d = component_of desc j in
-    let place : place_of desc c (c.shift + a) ≡ place_of desc d (d.shift + b) =
+    let place : position_of desc c (c.shift + a) ≡ position_of desc d (d.shift + b) =
     word_place desc laid i first a in_first
     ∙ ap (λ s. bit_in_order desc.be s (word_shift desc c + a)) step
     ∙ ap (bit_in_order desc.be d.step) same
     ∙ sym (word_place desc laid j second b in_second) in
     laid.apart i j a b first second differ plane in_first in_second
-    (bit_place_is desc c a (laid.first i first) ∙ ap pos place ∙ sym (bit_place_is desc d b (laid.first j second)))
+    (bit_position_is desc c a (laid.first i first) ∙ ap pos place ∙ sym (bit_position_is desc d b (laid.first j second)))

@@ -6,7 +6,7 @@ ghost use Rattle.op_build.specs.Shape.{element_index, element_slot};
 
 use crate::shape::{element_bytes, element_counts};
 use crate::word::component_of;
-use pix_desc::{Desc, first_place};
+use pix_desc::{Desc, first_byte_index};
 
 /// The sum of the counts of the planes before one.
 pub fn total_before(counts: &[u8; 4], plane: u8) -> u16
@@ -28,7 +28,7 @@ fn element_index(desc: &Desc, j: u8) -> u32
     ensures { result ≡ element_index desc.now j }
 {
     let comp = component_of(desc, j);
-    let place = first_place(desc, &comp) / u16::from(element_bytes(desc));
+    let place = first_byte_index(desc, &comp) / u16::from(element_bytes(desc));
     u32::from(total_before(&element_counts(desc), comp.plane)) + u32::from(place)
 }
 

@@ -7,7 +7,7 @@ use Rattle.frac_math.specs.Fraction.{ℚ, nat, ◌+ℚ◌, ◌*ℚ◌}
 use Rattle.frac_math.specs.Checked.{checked_sum, checked_product}
 use Rattle.frac_math.specs.Dither.{dither_at}
 use Rattle.op_list.specs.declared.types.Stage.{Stage}
-use Rattle.op_list.specs.declared.place.Place.{Place}
+use Rattle.op_list.specs.declared.position.PixelPosition.{PixelPosition}
 use Rattle.op_list.specs.declared.op.Op.{Op}
 use Rattle.op_list.specs.declared.op.Op.TheVariants.{Dither, Linear, Scale, Min, Max}
 use Rattle.op_list.specs.declared.values.Values.{Values}
@@ -121,7 +121,7 @@ limits_step g k bounds has e = record {
 }
 
 -- ---- an operation
-pub apply_there : (frame : List ℕ) (place : Place) (stage : Stage) (op : Op) (values : Values) (bounds after : List FractionBound) → HaveBounds values bounds
+pub apply_there : (frame : List ℕ) (place : PixelPosition) (stage : Stage) (op : Op) (values : Values) (bounds after : List FractionBound) → HaveBounds values bounds
     → bounds_after op bounds ≡ Some after → AreThere (checked_apply frame place stage op values) (apply frame place stage op values) after
 unfolding bounds_after checked_apply apply
 apply_there frame place stage (Dither k) values bounds after have e =
@@ -143,7 +143,7 @@ apply_there frame place stage (Max limits) values bounds after have e =
 apply_there frame place stage op values bounds after have e = absurd (none-some after e)
 
 -- ---- a list
-pub run_there : (frame : List ℕ) (place : Place) (stage : Stage) (ops : List Op) (values : Values) (bounds after : List FractionBound) → HaveBounds values bounds
+pub run_there : (frame : List ℕ) (place : PixelPosition) (stage : Stage) (ops : List Op) (values : Values) (bounds after : List FractionBound) → HaveBounds values bounds
     → bounds_from ops bounds ≡ Some after → AreThere (checked_run_from frame place stage ops values) (run_from frame place stage ops values) after
 unfolding bounds_from checked_run_from run_from
 run_there frame place stage [] values bounds after have e = record { there = refl; bounded = subst (λ bs. HaveBounds values bs) (same_Some bounds after e) have }

@@ -6,7 +6,7 @@ pub mod Pairs
 pub mod Planes
 pub mod Valid
 pub mod BitsOfBytes
-pub mod FramePlaces
+pub mod BitPositions
 pub mod FrameReads
 pub mod FramePixel
 pub mod FramePlanes

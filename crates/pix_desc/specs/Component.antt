@@ -1,4 +1,5 @@
--- Components of a pixel: where a descriptor says that they lie, and what is read there (FFmpeg, libavutil/pixdesc.h, AVComponentDescriptor and av_read_image_line2).
+-- Components of a pixel: where a descriptor says that they lie, and what is read there (FFmpeg, libavutil/pixdesc.h, AVComponentDescriptor
+-- and av_read_image_line2).
 use Rattle.std.specs.Prelude.{◌≡◌, ℕ, ◌+◌, ◌-◌, ◌*◌, ◌/◌, ◌%◌, ◌^◌, ℤ, pos, negsuc, ◌+ℤ◌, ◌*ℤ◌, ◌-ℤ◌, Bool, false, not, ◌&&◌, if◌then◌else◌, nat_le, List, map, length, slice_index, slice_index_or}
 use Rattle.std.specs.List.{range_with_len, list_any}
 use Rattle.std.specs.Int.{bit_at}
@@ -55,15 +56,15 @@ abbrev pub bit_of : List ℕ → ℕ → ℕ
 bit_of bytes k = bit_at (slice_index bytes (k / 8)) (k % 8)
 
 -- bit i of a component's value is this bit of its pixel, counted from the lowest bit of the pixel's first byte
-abbrev pub bit_place : Desc → Comp → ℕ → ℤ
-bit_place desc c i =
+abbrev pub bit_position : Desc → Comp → ℕ → ℤ
+bit_position desc c i =
     let bit = c.shift + i in
     let byte = if desc.be && not (is_narrow c) then 1 - bit / 8 else bit / 8 in
     pos 8 *ℤ (first_byte desc c +ℤ pos byte) +ℤ pos (bit % 8)
 
 -- whether a component reads a bit of its pixel
 abbrev pub reads_bit : Desc → Comp → ℤ → Bool
-reads_bit desc c k = list_any (λ i. int_eq (bit_place desc c i) k) (range_with_len 0 c.depth)
+reads_bit desc c k = list_any (λ i. int_eq (bit_position desc c i) k) (range_with_len 0 c.depth)
 
 -- whether component j of pixel x reads bit k of a row
 abbrev pub reads_row_bit : Desc → ℕ → ℕ → ℕ → Bool

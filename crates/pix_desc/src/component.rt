@@ -4,7 +4,7 @@ ghost use Rattle.std.specs.Int.{bit_at};
 ghost use Rattle.pix_desc.specs.Component.{component_of, is_narrow, bytes_read, start_of, number_at, component, KeepsOtherBits};
 ghost use Rattle.pix_desc.specs.Layouts.{IsValid};
 
-use crate::place::{first_place, is_narrow};
+use crate::positions::{first_byte_index, is_narrow};
 use crate::{Comp, Desc};
 use byteorder::{BigEndian, ByteOrder, LittleEndian};
 
@@ -13,7 +13,7 @@ fn start_of(desc: &Desc, comp: &Comp, x: u32) -> usize
     ensures { result ≡ start_of desc.now comp.now x }
 {
     let step = comp.step;
-    x as usize * usize::from(step) + usize::from(first_place(desc, comp))
+    x as usize * usize::from(step) + usize::from(first_byte_index(desc, comp))
 }
 
 /// The number that the component is read from: one byte, or two in the format's byte order.
@@ -36,7 +36,8 @@ fn set_number_at(desc: &Desc, comp: &Comp, row: &mut [u8], at: usize, number: u1
     requires fits { IsTrue (is_narrow comp.now) → number < 2 ^ 8 }
     ensures reads { number_at desc.now comp.now row.new at ≡ number }
     ensures before { (k : ℕ) → k < at → slice_index row.new k ≡ slice_index row.old k }
-    ensures behind { (k : ℕ) → at + bytes_read comp.now ≤ k → slice_index row.new k ≡ slice_index row.old k }
+    ensures behind { (k : ℕ) → at + bytes_read comp.now ≤ k
+        → slice_index row.new k ≡ slice_index row.old k }
 {
     if is_narrow(comp) {
         row[at] = number as u8;
@@ -55,7 +56,7 @@ fn bits_of(number: u16, shift: u8, depth: u8) -> u32
     (u32::from(number) >> shift) & ((1 << depth) - 1)
 }
 
-/// The number with `value` in place of its `depth` bits from `shift` on.
+/// The number with `value` for its `depth` bits from `shift` on.
 fn with_bits(number: u16, shift: u8, depth: u8, value: u16) -> u16
     requires deep { 0 < depth }
     requires bits { shift + depth ≤ 16 }

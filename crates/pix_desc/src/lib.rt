@@ -1,22 +1,22 @@
-// Descriptors of pixel formats, the components of a row, and raw frames.
+//! Descriptors of pixel formats, the components of a row, and raw frames.
+//!
+//! A descriptor is read as FFmpeg's libavutil/pixdesc.h says of AVPixFmtDescriptor and
+//! AVComponentDescriptor.
 #![tactic(auto)]
 
 mod checks;
 mod component;
 mod desc;
-mod frame;
-mod laws;
-mod layout;
-mod place;
-mod word;
+mod element_layout;
+pub mod laws;
+mod positions;
+mod word_layout;
 
 pub use checks::check;
 pub use component::{read_comp, write_comp};
 pub use desc::{Comp, Desc, DescFault, Layout};
-pub use frame::{agreeing_values_frame, has_one_frame, same_values_frame};
-pub use laws::{component_has_its_bits, other_components_stay, passes_laid_out};
-pub use place::{bytes_read, components, first_place};
-pub use word::word_shift;
+pub use positions::{bytes_read, components, first_byte_index};
+pub use word_layout::word_shift;
 
 #[cfg(test)]
 mod tests;

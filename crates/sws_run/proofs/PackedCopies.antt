@@ -10,7 +10,7 @@ use Rattle.pix_desc.specs.Frame.{frame_component}
 use Rattle.pix_desc.specs.Layouts.{IsValid, is_count}
 use Rattle.pix_desc.proofs.Valid.{has_no_fault}
 use Rattle.pix_desc.proofs.FrameOnly.{agreeing_frames}
-use Rattle.pix_desc.proofs.FramePlaces.{frame_component_below}
+use Rattle.pix_desc.proofs.BitPositions.{frame_component_below}
 use Rattle.colour_matrix.specs.declared.class.Class.TheVariants.{Direct}
 use Rattle.colour_matrix.specs.Values.{value_at}
 use Rattle.colour_matrix.specs.Levels.{levels, from_code, to_code}

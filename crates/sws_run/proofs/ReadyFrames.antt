@@ -6,7 +6,7 @@ use Rattle.std.proofs.lemmas.Option.{same_Some}
 use Rattle.pix_desc.specs.Frame.{frame_length, IsFrameOf}
 use Rattle.pix_meaning.specs.Target.{target_frame, result_of}
 use Rattle.pix_meaning.proofs.TargetLaws.{has_one_target_frame}
-use Rattle.op_list.specs.declared.place.Place.{Place}
+use Rattle.op_list.specs.declared.position.PixelPosition.{PixelPosition}
 use Rattle.op_list.specs.Types.{bits, bytes, is_whole_type}
 use Rattle.op_list.specs.Typing.{ends_with_write}
 use Rattle.op_list.specs.Values.{four}
@@ -26,7 +26,7 @@ pub are_bytes : (frame : List ℕ) → ((k : ℕ) → slice_index frame k < 256)
 are_bytes frame small = All-from_get_or (λ byte. byte < 256) frame 0 (λ k within. small k)
 
 -- the place of a pixel of a whole frame
-abbrev pub pixel_of : Conversion → ℕ → ℕ → Place
+abbrev pub pixel_of : Conversion → ℕ → ℕ → PixelPosition
 pixel_of conversion x row = record { width = conversion.width; rows = conversion.height; x = x; row = row; y = row }
 
 pub target_is_frame : (conversion : Conversion) (input : List ℕ) → IsReady conversion
@@ -77,7 +77,7 @@ pub stores : (conversion : Conversion) (input old new numbers : List ℕ) (x row
     → length input ≡ frame_length conversion.pair.from.desc conversion.width conversion.height
     → Some numbers ≡ checked_run conversion.list input conversion.width conversion.height x row row
     → ((i : ℕ) → i < sum conversion.planes → element_of conversion.elem conversion.planes new (pixel_of conversion x row) i ≡ slice_index numbers i % 2 ^ bits conversion.elem)
-    → ((other : Place) → IsOtherPixel (pixel_of conversion x row) other → (i : ℕ) → element_of conversion.elem conversion.planes new other i ≡ element_of conversion.elem conversion.planes old other i)
+    → ((other : PixelPosition) → IsOtherPixel (pixel_of conversion x row) other → (i : ℕ) → element_of conversion.elem conversion.planes new other i ≡ element_of conversion.elem conversion.planes old other i)
     → Stores conversion.elem conversion.planes (pixel_of conversion x row) numbers old new (target_frame conversion.pair conversion.width conversion.height input)
 stores conversion input old new numbers x row ready column down small size is stored others = record {
   stored = stored;

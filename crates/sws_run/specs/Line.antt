@@ -5,7 +5,7 @@ use Rattle.std.specs.Char.{is_ascii_digit}
 use Rattle.std.specs.Str.{bytes_eq}
 use Rattle.desc_table.specs.declared.fault.FormatFault.{FormatFault}
 use Rattle.desc_table.specs.Format.{format_count, desc_of}
-use Rattle.desc_table.specs.Refused.{found}
+use Rattle.desc_table.specs.Refused.{lookup}
 use Rattle.sws_run.specs.declared.words.Task.{Task}
 use Rattle.sws_run.specs.declared.ended.Ended.{Ended}
 use Rattle.sws_run.specs.declared.ended.Ended.TheVariants.{Usage, Format, PaletteTarget}
@@ -52,7 +52,7 @@ formats width height (Ok source) (Ok target) =
 abbrev pub sized : Option (ℕ × ℕ) → List ℕ → List ℕ → Result Task Ended
 sized None source target = Err (Usage Value)
 sized (Some size) source target =
-    if is_frame_size size.0 size.1 then formats size.0 size.1 (named In (found source)) (named Out (found target)) else Err (Usage Size)
+    if is_frame_size size.0 size.1 then formats size.0 size.1 (named In (lookup source)) (named Out (lookup target)) else Err (Usage Size)
 
 -- the task that the words ask for, or how the run ends without it
 abbrev pub task_of : List (List ℕ) → Result Task Ended

@@ -7,7 +7,7 @@ ghost use Rattle.sws_run.specs.Evaluated.{IsEvaluated};
 
 use frac_math::OutOfMemory;
 use op_build::{BuildFault, build, element_counts, element_type};
-use op_list::{OpList, PixType, Place, store_elements};
+use op_list::{OpList, PixType, PixelPosition, store_elements};
 use pix_meaning::Pair;
 use std::alloc::Global;
 
@@ -70,7 +70,7 @@ impl Conversion {
         ensures size { length output.new ≡ length output.old }
         ensures after { IsConverted self.now input.now output.new (row * self.now.width + x + 1) }
     {
-        let place = Place {
+        let place = PixelPosition {
             width: self.width,
             rows: self.height,
             x,

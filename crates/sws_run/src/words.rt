@@ -1,6 +1,6 @@
 // The command line: raw IN OUT WxH.
 ghost use Rattle.std.specs.Prelude.{◌≡◌, ◌<◌, map, string_bytes, IfOk, IfErr};
-ghost use Rattle.desc_table.specs.Refused.{found};
+ghost use Rattle.desc_table.specs.Refused.{lookup};
 ghost use Rattle.sws_run.specs.Ending.{IsRefusal};
 ghost use Rattle.desc_table.specs.Format.{format_count};
 ghost use Rattle.sws_run.specs.Line.{number_of, size_of, is_frame_size, named, task_of, IsSound};
@@ -53,7 +53,7 @@ fn is_frame_size(width: u128, height: u128) -> bool
 
 // The format of a name.
 fn format(side: SideName, name: &str) -> Result<FormatId, Ended>
-    ensures value { result ≡ named side (found name.now) }
+    ensures value { result ≡ named side (lookup name.now) }
     ensures known { IfOk result (λ id. id < format_count) }
     ensures refusal { IfErr result IsRefusal }
 {

@@ -1,12 +1,12 @@
 use Rattle.std.proofs.Common.{sym, ◌∙◌}
-use Rattle.desc_table.proofs.Found.{found-Ok}
+use Rattle.desc_table.proofs.Lookup.{lookup-Ok}
 use Rattle.desc_table.proofs.id.find.Goals as goal
 
 pub invariant_of-result : goal.invariant_of-result
-invariant_of-result c = (found-Ok c.args.name.now c.in_ok-row.row (sym c.row_of.ensures ∙ c.in_ok-row.was)).0
+invariant_of-result c = (lookup-Ok c.args.name.now c.in_ok-row.row (sym c.row_of.ensures ∙ c.in_ok-row.was)).0
 
 pub returns-clause-named : goal.returns-clause-named
-returns-clause-named c = (found-Ok c.args.name.now c.in_ok-row.row (sym c.row_of.ensures ∙ c.in_ok-row.was)).1
+returns-clause-named c = (lookup-Ok c.args.name.now c.in_ok-row.row (sym c.row_of.ensures ∙ c.in_ok-row.was)).1
 
 pub returns-clause-below : goal.returns-clause-below
-returns-clause-below c = (found-Ok c.args.name.now c.in_ok-row.row (sym c.row_of.ensures ∙ c.in_ok-row.was)).0
+returns-clause-below c = (lookup-Ok c.args.name.now c.in_ok-row.row (sym c.row_of.ensures ∙ c.in_ok-row.was)).0

@@ -1,6 +1,6 @@
 use Rattle.std.proofs.Common.{refl}
 use Rattle.desc_table.specs.Format.{formats}
-use Rattle.desc_table.specs.Refused.{refused, found}
+use Rattle.desc_table.specs.Refused.{refused, lookup}
 use Rattle.desc_table.specs.Names.{known_names}
 use Rattle.desc_table.proofs.names.names.Goals as goal
 
@@ -8,7 +8,7 @@ pub returns-clause-ordered : goal.returns-clause-ordered
 returns-clause-ordered c = refl
 
 pub returns-clause-answers : goal.returns-clause-answers
-unfolding formats refused found
+unfolding formats refused lookup
 returns-clause-answers c = refl
 
 pub returns-clause-complete : goal.returns-clause-complete

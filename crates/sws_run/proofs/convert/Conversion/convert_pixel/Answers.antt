@@ -13,7 +13,7 @@ run_pixel-requires-clause-frame c = c.requires.input ∙ sym (reads_input c.args
 pub unwrap-elements-requires : goal.unwrap-elements-requires
 unwrap-elements-requires c =
     let small = are_bytes c.args.input.now (λ k. (c.type_inv.input k).fits) in
-    let answer = c.run_pixel.ensures ∙ evaluates c.args.self.now c.args.input.now c.args.x c.args.row c.requires.ready c.requires.column c.requires.row small c.requires.input in
+    let answer = c.run_pixel.ensures.checked ∙ evaluates c.args.self.now c.args.input.now c.args.x c.args.row c.requires.ready c.requires.column c.requires.row small c.requires.input in
     subst IsSome (sym answer) refl
 
 pub store_elements-requires : goal.store_elements-requires
@@ -25,5 +25,5 @@ returns-clause-after c =
     let small = are_bytes c.args.input.now (λ k. (c.type_inv.input k).fits) in
     converted_more conversion.elem conversion.planes conversion.width conversion.height c.args.x c.args.row c.args.row c.unwrap-elements.result c.args.output.now c.store_elements.new.frame _ c.requires.column
     (stores conversion c.args.input.now c.args.output.now c.store_elements.new.frame c.unwrap-elements.result c.args.x c.args.row c.requires.ready c.requires.column c.requires.row small c.requires.input
-    (sym c.unwrap-elements.ensures ∙ c.run_pixel.ensures) c.store_elements.ensures.stored c.store_elements.ensures.others)
+    (sym c.unwrap-elements.ensures ∙ c.run_pixel.ensures.checked) c.store_elements.ensures.stored c.store_elements.ensures.others)
     c.requires.before

@@ -1,5 +1,0 @@
-use Rattle.pix_desc.proofs.FrameOnly.{agreeing_frames}
-use Rattle.pix_desc.proofs.frame.agreeing_values_frame.Goals as goal
-
-pub returns : goal.returns
-returns c = agreeing_frames

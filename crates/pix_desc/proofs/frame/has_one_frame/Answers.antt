@@ -1,5 +1,0 @@
-use Rattle.pix_desc.proofs.FrameLaws.{one_frame}
-use Rattle.pix_desc.proofs.frame.has_one_frame.Goals as goal
-
-pub returns : goal.returns
-returns c = one_frame

@@ -1,5 +1,0 @@
-use Rattle.pix_desc.proofs.FrameLaws.{same_frames}
-use Rattle.pix_desc.proofs.frame.same_values_frame.Goals as goal
-
-pub returns : goal.returns
-returns c = same_frames
