@@ -121,41 +121,41 @@ limits_step g k bounds has e = record {
 }
 
 -- ---- an operation
-pub apply_there : (frame : List ℕ) (place : PixelPosition) (stage : Stage) (op : Op) (values : Values) (bounds after : List FractionBound) → HaveBounds values bounds
-    → bounds_after op bounds ≡ Some after → AreThere (checked_apply frame place stage op values) (apply frame place stage op values) after
+pub apply_there : (frame : List ℕ) (position : PixelPosition) (stage : Stage) (op : Op) (values : Values) (bounds after : List FractionBound) → HaveBounds values bounds
+    → bounds_after op bounds ≡ Some after → AreThere (checked_apply frame position stage op values) (apply frame position stage op values) after
 unfolding bounds_after checked_apply apply
-apply_there frame place stage (Dither k) values bounds after have e =
-    each_step (λ i. checked_sum (fraction values i) (dither_at k place.x place.y)) (λ i. fraction values i +ℚ dither_at k place.x place.y)
+apply_there frame position stage (Dither k) values bounds after have e =
+    each_step (λ i. checked_sum (fraction values i) (dither_at k position.x position.y)) (λ i. fraction values i +ℚ dither_at k position.x position.y)
     (λ i. sum_bound (bound_in bounds i) (dither_bound k)) after
-    (λ i b is. sum_step (fraction values i) (dither_at k place.x place.y) _ _ b (have.each i) (dither_bounded k place.x place.y) is) e
-apply_there frame place stage (Linear rows) values bounds after have e =
+    (λ i b is. sum_step (fraction values i) (dither_at k position.x position.y) _ _ b (have.each i) (dither_bounded k position.x position.y) is) e
+apply_there frame position stage (Linear rows) values bounds after have e =
     each_step (λ i. checked_row (row_of rows i) values) (λ i. row_value (row_of rows i) values) (λ i. row_bound (row_of rows i) bounds) after
     (λ i b is. row_step (row_of rows i) values bounds b have is) e
-apply_there frame place stage (Scale by) values bounds after have e =
+apply_there frame position stage (Scale by) values bounds after have e =
     each_step (λ i. checked_product (fraction values i) by) (λ i. fraction values i *ℚ by) (λ i. product_bound (bound_in bounds i) (bound_of by)) after
     (λ i b is. product_step (fraction values i) by _ _ b (have.each i) (itself_bound by) is) e
-apply_there frame place stage (Min limits) values bounds after have e =
+apply_there frame position stage (Min limits) values bounds after have e =
     limits_step (λ i. at_most (entry limits i) (fraction values i)) (λ i. limited_bound (entry limits i) (bound_in bounds i)) after
     (λ i. least_bounded (entry limits i) (fraction values i) (bound_in bounds i) (have.each i)) e
-apply_there frame place stage (Max limits) values bounds after have e =
+apply_there frame position stage (Max limits) values bounds after have e =
     limits_step (λ i. at_least (entry limits i) (fraction values i)) (λ i. limited_bound (entry limits i) (bound_in bounds i)) after
     (λ i. greatest_bounded (entry limits i) (fraction values i) (bound_in bounds i) (have.each i)) e
-apply_there frame place stage op values bounds after have e = absurd (none-some after e)
+apply_there frame position stage op values bounds after have e = absurd (none-some after e)
 
 -- ---- a list
-pub run_there : (frame : List ℕ) (place : PixelPosition) (stage : Stage) (ops : List Op) (values : Values) (bounds after : List FractionBound) → HaveBounds values bounds
-    → bounds_from ops bounds ≡ Some after → AreThere (checked_run_from frame place stage ops values) (run_from frame place stage ops values) after
+pub run_there : (frame : List ℕ) (position : PixelPosition) (stage : Stage) (ops : List Op) (values : Values) (bounds after : List FractionBound) → HaveBounds values bounds
+    → bounds_from ops bounds ≡ Some after → AreThere (checked_run_from frame position stage ops values) (run_from frame position stage ops values) after
 unfolding bounds_from checked_run_from run_from
-run_there frame place stage [] values bounds after have e = record { there = refl; bounded = subst (λ bs. HaveBounds values bs) (same_Some bounds after e) have }
-run_there frame place stage (op ∷ ops) values bounds after have e =
+run_there frame position stage [] values bounds after have e = record { there = refl; bounded = subst (λ bs. HaveBounds values bs) (same_Some bounds after e) have }
+run_there frame position stage (op ∷ ops) values bounds after have e =
     option_and_then_some _ (bounds_after op bounds) after e (λ next is rest.
-    let s = apply_there frame place stage op values bounds next have is in
-    let t = run_there frame place (stage_after stage op) ops (apply frame place stage op values) next after s.bounded rest in
+    let s = apply_there frame position stage op values bounds next have is in
+    let t = run_there frame position (stage_after stage op) ops (apply frame position stage op values) next after s.bounded rest in
     record {
-      there = ap (λ a. option_and_then (λ next. checked_run_from frame place (stage_after stage op) ops next) a) s.there ∙ t.there;
+      there = ap (λ a. option_and_then (λ next. checked_run_from frame position (stage_after stage op) ops next) a) s.there ∙ t.there;
       bounded = t.bounded;
     })
 
 pub bounds_are_enough : BoundsAreEnough
-bounds_are_enough frame place stage ops values bounds after have e =
-    let s = run_there frame place stage ops values bounds after have e in record { there = s.there; bounded = s.bounded }
+bounds_are_enough frame position stage ops values bounds after have e =
+    let s = run_there frame position stage ops values bounds after have e in record { there = s.there; bounded = s.bounded }

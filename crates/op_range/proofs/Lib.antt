@@ -1,6 +1,6 @@
 pub mod FractionBounds
 pub mod FractionBoundSteps
-pub mod Fours
+pub mod AnyOfFour
 pub mod Agreeing
 pub mod UsedSteps
 pub mod Within

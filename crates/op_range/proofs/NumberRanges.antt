@@ -20,6 +20,7 @@ use Rattle.op_list.specs.Values.{number}
 use Rattle.op_list.specs.Whole.{reversed_bytes, bits_below, field, placed, modulo}
 use Rattle.op_list.specs.Apply.{packed}
 use Rattle.op_list.proofs.Elements.{sum-cons}
+use Rattle.op_list.proofs.ReversedBytes.{reversed_bytes-below}
 use Rattle.op_range.specs.declared.range.ValueRange.{ValueRange}
 use Rattle.op_range.specs.Ranges.{from_to, only_zero, full, is_there_and, lies_in_full, fits_full, where_it_fits, times, multiplied_range, floored_range, shifted_right, is_zero_bound, swapped_range, left_range, right_range, as_whole_range}
 use Rattle.op_range.specs.Within.{IsWithin}
@@ -51,28 +52,16 @@ below_power x k h = let p = pow_pos k in omega arith
 pub mod_below : (x k : ℕ) → x % 2 ^ k < 2 ^ k
 mod_below x k = let p = pow_pos k in omega arith
 
-power_of_bytes : (count : ℕ) → 256 ^ count ≡ 2 ^ (8 * count)
-power_of_bytes zero = refl
-power_of_bytes (suc count) =
-    let more : 256 ^ suc count ≡ 256 ^ count * 256 = pow-suc 256 count in
-    let places : 8 * suc count ≡ 8 * count + 8 = omega arith in
-    omega (arith, power_of_bytes count, ap (λ k. 2 ^ k) places, pow-add 2 (8 * count) 8)
-
 -- ---- SwapBytes
-reversed-below : (count n : ℕ) → reversed_bytes count n < 256 ^ count
-reversed-below zero n = omega arith
-reversed-below (suc count) n =
-    omega (arith, pow-suc 256 count, mul-add-lt (n % 256) (256 ^ count) (reversed_bytes count (n / 256)) 256 (omega arith) (reversed-below count (n / 256)))
-
 reversed_zero : (count : ℕ) → reversed_bytes count 0 ≡ 0
 reversed_zero zero = refl
 reversed_zero (suc count) = omega (arith, reversed_zero count)
 
 pub reversed_full : (elem : PixType) (x : ℕ) → reversed_bytes (bits elem / 8) x < 2 ^ bits elem
-reversed_full U8 x = reversed-below 1 x
-reversed_full U16 x = reversed-below 2 x
-reversed_full U32 x = reversed-below 4 x
-reversed_full Rat x = reversed-below 0 x
+reversed_full U8 x = reversed_bytes-below 1 x
+reversed_full U16 x = reversed_bytes-below 2 x
+reversed_full U32 x = reversed_bytes-below 4 x
+reversed_full Rat x = reversed_bytes-below 0 x
 
 zero_bound : (high : Option ℚ) (x : ℕ) → is_zero_bound high ≡ true → IfSome high (λ b. nat x ≤ℚ b) → x ≡ 0
 zero_bound None x t h = absurd (cc)

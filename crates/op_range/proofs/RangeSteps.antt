@@ -11,7 +11,7 @@ use Rattle.op_list.specs.declared.types.PixType.{PixType}
 use Rattle.op_list.specs.declared.types.PixType.TheVariants.{U8, U16, U32, Rat}
 use Rattle.op_list.specs.declared.types.Stage.{Stage}
 use Rattle.op_list.specs.declared.types.Stage.TheVariants.{Start, Typed, Ended}
-use Rattle.op_list.specs.declared.place.Place.{Place}
+use Rattle.op_list.specs.declared.position.PixelPosition.{PixelPosition}
 use Rattle.op_list.specs.declared.op.Op.{Op}
 use Rattle.op_list.specs.declared.op.Op.TheVariants.{Read, Write, SwapBytes, Unpack, Pack, Clear, LeftShift, RightShift, Swizzle, Convert, Dither, Linear, Scale, Min, Max}
 use Rattle.op_list.specs.declared.values.Values.{Values}
@@ -22,33 +22,34 @@ use Rattle.op_list.specs.Values.{four, number, fraction, fraction_in, entry, are
 use Rattle.op_list.specs.Whole.{reversed_bytes, field, modulo}
 use Rattle.op_list.specs.Pixel.{element_of, element, element_in, pixel_count, pixel_number, read_values, palette_colours, colours}
 use Rattle.op_list.specs.Apply.{apply, written, packed, cleared, cleared_number, cleared_fraction, swizzled, as_numbers, converted, row_value, row_of, at_most, at_least}
-use Rattle.op_list.proofs.Applied.{whole_not_rational, whole_before, left_shift, swizzle_places, clear_entries}
+use Rattle.op_list.proofs.Applied.{whole_not_rational, whole_before, left_shift, swizzle_lanes, clear_entries}
+use Rattle.op_list.proofs.GivenEntries.{fits_at}
 use Rattle.op_list.proofs.Stored.{byte_below, element_below}
 use Rattle.op_range.specs.declared.range.ValueRange.{ValueRange}
 use Rattle.op_range.specs.Ranges.{range, from_to, only_zero, full, range_in, is_whole_number, cleared_range, converted_range, as_whole_range, swapped_range, left_range, right_range, ranges_after, scaled_range, row_range, dithered_range, range_at_most, range_at_least}
 use Rattle.op_range.specs.Within.{value_of, IsWithin, AreWithin, FirstAreWithin}
 use Rattle.op_range.specs.Laws.{MayStand, RangesEnclose}
-use Rattle.op_range.proofs.Fours.{at_four}
+use Rattle.op_list.proofs.Four.{get_or-four}
 use Rattle.op_range.proofs.UsedSteps.{index_below}
 use Rattle.op_range.proofs.Within.{numbers_within, fractions_within, number_at, fraction_at, below_full, zero_only}
 use Rattle.op_range.proofs.NumberRanges.{swapped_within, left_within, right_within, numbers_as_whole, fractions_as_whole, packed-below, mod_below}
 use Rattle.op_range.proofs.FractionRanges.{scaled_within, row_within, dithered_within, most_within, least_within}
 
 -- ---- Read
-element_within : (elem : PixType) (planes frame : List ℕ) (place : Place) (i : ℕ) → All (λ byte. byte < 256) frame
-    → IsWithin (if nat_lt i (sum planes) then full (bits elem) else only_zero) (nat (element_of elem planes frame place i))
+element_within : (elem : PixType) (planes frame : List ℕ) (position : PixelPosition) (i : ℕ) → All (λ byte. byte < 256) frame
+    → IsWithin (if nat_lt i (sum planes) then full (bits elem) else only_zero) (nat (element_of elem planes frame position i))
 unfolding element_of
-element_within elem planes frame place i bytes = by_place_in (nat_lt i (sum planes)) (element elem frame (element_in (pixel_count place) (pixel_number place) 0 planes i)) (element_below elem frame _ bytes)
+element_within elem planes frame position i bytes = by_place_in (nat_lt i (sum planes)) (element elem frame (element_in (pixel_count position) (pixel_number position) 0 planes i)) (element_below elem frame _ bytes)
   where
     by_place_in : (t : Bool) (n : ℕ) → n < 2 ^ bits elem → IsWithin (if t then full (bits elem) else only_zero) (nat (if t then n else 0))
     by_place_in true n h = below_full (bits elem) n h
     by_place_in false n h = zero_only
 
-colours_within : (frame : List ℕ) (place : Place) → All (λ byte. byte < 256) frame → AreWithin (four (λ i. full 8)) (Numbers (palette_colours frame place))
+colours_within : (frame : List ℕ) (position : PixelPosition) → All (λ byte. byte < 256) frame → AreWithin (four (λ i. full 8)) (Numbers (palette_colours frame position))
 unfolding palette_colours
-colours_within frame place bytes = record { each = at_value }
+colours_within frame position bytes = record { each = at_value }
   where
-    at_value : (i : ℕ) → i < 4 → IsWithin (range_in (four (λ i. full 8)) i) (value_of (Numbers (colours frame (pixel_count place + 4 * slice_index frame (pixel_number place)))) i)
+    at_value : (i : ℕ) → i < 4 → IsWithin (range_in (four (λ i. full 8)) i) (value_of (Numbers (colours frame (pixel_count position + 4 * slice_index frame (pixel_number position)))) i)
     at_value zero below = below_full 8 _ (byte_below frame _ bytes)
     at_value (suc zero) below = below_full 8 _ (byte_below frame _ bytes)
     at_value (suc (suc zero)) below = below_full 8 _ (byte_below frame _ bytes)
@@ -61,11 +62,11 @@ same_type U16 h = absurd (cc)
 same_type U32 h = absurd (cc)
 same_type Rat h = absurd (cc)
 
-read_within : (elem : PixType) (planes frame : List ℕ) (palette : Bool) (place : Place) → All (λ byte. byte < 256) frame → (palette ≡ true → elem ≡ U8)
-    → AreWithin (four (λ i. if palette || nat_lt i (sum planes) then full (bits elem) else only_zero)) (Numbers (read_values elem planes palette frame place))
-read_within elem planes frame true place bytes eight = subst (λ (t : PixType). AreWithin (four (λ i. full (bits t))) (Numbers (palette_colours frame place))) (sym (eight refl)) (colours_within frame place bytes)
-read_within elem planes frame false place bytes eight =
-    numbers_within (λ i. if nat_lt i (sum planes) then full (bits elem) else only_zero) (λ i. element_of elem planes frame place i) (λ i below. element_within elem planes frame place i bytes)
+read_within : (elem : PixType) (planes frame : List ℕ) (palette : Bool) (position : PixelPosition) → All (λ byte. byte < 256) frame → (palette ≡ true → elem ≡ U8)
+    → AreWithin (four (λ i. if palette || nat_lt i (sum planes) then full (bits elem) else only_zero)) (Numbers (read_values elem planes palette frame position))
+read_within elem planes frame true position bytes eight = subst (λ (t : PixType). AreWithin (four (λ i. full (bits t))) (Numbers (palette_colours frame position))) (sym (eight refl)) (colours_within frame position bytes)
+read_within elem planes frame false position bytes eight =
+    numbers_within (λ i. if nat_lt i (sum planes) then full (bits elem) else only_zero) (λ i. element_of elem planes frame position i) (λ i below. element_within elem planes frame position i bytes)
 
 pub palette_type : (elem : PixType) (planes : List ℕ) (palette : Bool) (stage : Stage) → are_good stage (Read elem planes palette) ≡ true → palette ≡ true → elem ≡ U8
 unfolding are_good
@@ -92,11 +93,6 @@ cleared_within : (stage : Stage) (entries : List (Option ℚ)) (ranges : List Va
 cleared_within stage entries ranges (Numbers v) fits w =
     numbers_within (λ i. cleared_range (entry entries i) (range_in ranges i)) (λ i. cleared_number (entry entries i) (slice_index v i))
     (λ i below. cleared_value (bits_at stage) (entry entries i) (slice_index v i) (range_in ranges i) (fits_at (bits_at stage) entries i (fits refl)) (w.each i below))
-  where
-    fits_at : (bits : ℕ) (entries : List (Option ℚ)) (j : ℕ) → all_fit bits entries ≡ true → entry_fits bits (entry entries j) ≡ true
-    fits_at bits [] j h = refl
-    fits_at bits (e ∷ entries) zero h = (and_parts (entry_fits bits e) (all_fit bits entries) h).0
-    fits_at bits (e ∷ entries) (suc j) h = fits_at bits entries j (and_parts (entry_fits bits e) (all_fit bits entries) h).1
 cleared_within stage entries ranges (Fractions v) fits w =
     fractions_within (λ i. cleared_range (entry entries i) (range_in ranges i)) (λ i. cleared_fraction (entry entries i) (fraction_in v i))
     (λ i below. put (entry entries i) (fraction_in v i) (range_in ranges i) (w.each i below))
@@ -146,7 +142,7 @@ rat_within ranges (Numbers v) expand false kind w =
     fractions_within (λ i. converted_range Rat expand false (range_in ranges i)) (λ i. nat (slice_index v i)) (λ i below. number_kept (slice_index v i) (range_in ranges i) (w.each i below))
 rat_within ranges (Fractions v) expand true kind w = record {
   each = λ i below.
-      subst (λ (r : ValueRange). IsWithin r (fraction_in v i)) (sym (at_four (λ j. converted_range Rat expand true (range_in ranges j)) i only_zero below))
+      subst (λ (r : ValueRange). IsWithin r (fraction_in v i)) (sym (get_or-four (λ j. converted_range Rat expand true (range_in ranges j)) i only_zero below))
       (fraction_kept (fraction_in v i) (range_in ranges i) (w.each i below));
 }
 rat_within ranges (Numbers v) expand true kind w = absurd (cc)
@@ -235,40 +231,40 @@ write_within planes ranges v kind few w = record { each = at_value }
         → IsWithin (range_in (four (λ j. range (range_in ranges j).least (range_in ranges j).greatest true)) i) (value_of (Numbers (four (λ j. written planes v j))) i)
     at_value i below =
         let four_values : i < 4 = omega arith in
-        subst (λ (r : ValueRange). IsWithin r (value_of (Numbers (four (λ j. written planes v j))) i)) (sym (at_four (λ j. range (range_in ranges j).least (range_in ranges j).greatest true) i only_zero four_values))
-        (subst (λ (n : ℕ). IsWithin (range (range_in ranges i).least (range_in ranges i).greatest true) (nat n)) (sym (at_four (λ j. written planes v j) i 0 four_values ∙ written_is planes v i below))
+        subst (λ (r : ValueRange). IsWithin r (value_of (Numbers (four (λ j. written planes v j))) i)) (sym (get_or-four (λ j. range (range_in ranges j).least (range_in ranges j).greatest true) i only_zero four_values))
+        (subst (λ (n : ℕ). IsWithin (range (range_in ranges i).least (range_in ranges i).greatest true) (nat n)) (sym (get_or-four (λ j. written planes v j) i 0 four_values ∙ written_is planes v i below))
         (kept (range_in ranges i) (number v i) (number_at ranges v i kind four_values w)))
 
 pub ranges_enclose : RangesEnclose
 unfolding ranges_after apply may_follow
-ranges_enclose frame place stage (Read elem planes palette) ranges v h w = read_within elem planes frame palette place h.bytes (palette_type elem planes palette stage h.good)
-ranges_enclose frame place stage (Write elem planes) ranges v h w =
+ranges_enclose frame position stage (Read elem planes palette) ranges v h w = read_within elem planes frame palette position h.bytes (palette_type elem planes palette stage h.good)
+ranges_enclose frame position stage (Write elem planes) ranges v h w =
     write_within planes ranges v (h.kind ∙ whole_at_write stage elem planes h.follows h.good) (write_count stage elem planes h.good) w
-ranges_enclose frame place stage SwapBytes ranges v h w = swap_within stage ranges v h.follows h.kind w
-ranges_enclose frame place stage (Unpack widths) ranges v h w =
+ranges_enclose frame position stage SwapBytes ranges v h w = swap_within stage ranges v h.follows h.kind w
+ranges_enclose frame position stage (Unpack widths) ranges v h w =
     numbers_within (λ i. full (slice_index widths i)) (λ i. field widths (number v 0) i) (λ i below. below_full (slice_index widths i) _ (mod_below _ (slice_index widths i)))
-ranges_enclose frame place stage (Pack widths) ranges v h w = packing_within widths v
-ranges_enclose frame place stage (Clear entries) ranges v h w = cleared_within stage entries ranges v (entries_fit stage entries v h.kind h.good) w
-ranges_enclose frame place stage (LeftShift n) ranges v h w =
+ranges_enclose frame position stage (Pack widths) ranges v h w = packing_within widths v
+ranges_enclose frame position stage (Clear entries) ranges v h w = cleared_within stage entries ranges v (entries_fit stage entries v h.kind h.good) w
+ranges_enclose frame position stage (LeftShift n) ranges v h w =
     numbers_within (λ i. left_range (bits_at stage) n (range_in ranges i)) (λ i. number v i * 2 ^ n % 2 ^ bits_at stage)
     (λ i below. left_within (bits_at stage) n (number v i) (range_in ranges i) (left_shift stage n h.good) (number_at ranges v i (h.kind ∙ whole_not_rational stage h.follows) below w))
-ranges_enclose frame place stage (RightShift n) ranges v h w =
+ranges_enclose frame position stage (RightShift n) ranges v h w =
     numbers_within (λ i. right_range n (range_in ranges i)) (λ i. number v i / 2 ^ n)
     (λ i below. right_within n (number v i) (range_in ranges i) (number_at ranges v i (h.kind ∙ whole_not_rational stage h.follows) below w))
-ranges_enclose frame place stage (Swizzle from) ranges v h w = swizzled_within from ranges v (swizzle_places stage from h.good) w
-ranges_enclose frame place stage (Convert to expand) ranges v h w = converted_within to expand (is_rational stage) ranges v h.kind w
-ranges_enclose frame place stage (Dither k) ranges v h w =
-    fractions_within (λ i. dithered_range k (range_in ranges i)) (λ i. fraction v i +ℚ dither_at k place.x place.y)
-    (λ i below. dithered_within k place.x place.y (fraction v i) (range_in ranges i) (fraction_at ranges v i (h.kind ∙ h.follows) below w))
-ranges_enclose frame place stage (Linear rows) ranges v h w =
+ranges_enclose frame position stage (Swizzle from) ranges v h w = swizzled_within from ranges v (swizzle_lanes stage from h.good) w
+ranges_enclose frame position stage (Convert to expand) ranges v h w = converted_within to expand (is_rational stage) ranges v h.kind w
+ranges_enclose frame position stage (Dither k) ranges v h w =
+    fractions_within (λ i. dithered_range k (range_in ranges i)) (λ i. fraction v i +ℚ dither_at k position.x position.y)
+    (λ i below. dithered_within k position.x position.y (fraction v i) (range_in ranges i) (fraction_at ranges v i (h.kind ∙ h.follows) below w))
+ranges_enclose frame position stage (Linear rows) ranges v h w =
     fractions_within (λ i. row_range (row_of rows i) ranges) (λ i. row_value (row_of rows i) v)
     (λ i below. row_within (row_of rows i) v ranges (λ j less. fraction_at ranges v j (h.kind ∙ h.follows) less w))
-ranges_enclose frame place stage (Scale by) ranges v h w =
+ranges_enclose frame position stage (Scale by) ranges v h w =
     fractions_within (λ i. scaled_range by (range_in ranges i)) (λ i. fraction v i *ℚ by)
     (λ i below. scaled_within by (fraction v i) (range_in ranges i) (fraction_at ranges v i (h.kind ∙ h.follows) below w))
-ranges_enclose frame place stage (Min limits) ranges v h w =
+ranges_enclose frame position stage (Min limits) ranges v h w =
     fractions_within (λ i. range_at_most (entry limits i) (range_in ranges i)) (λ i. at_most (entry limits i) (fraction v i))
     (λ i below. most_within (entry limits i) (fraction v i) (range_in ranges i) (fraction_at ranges v i (h.kind ∙ h.follows) below w))
-ranges_enclose frame place stage (Max limits) ranges v h w =
+ranges_enclose frame position stage (Max limits) ranges v h w =
     fractions_within (λ i. range_at_least (entry limits i) (range_in ranges i)) (λ i. at_least (entry limits i) (fraction v i))
     (λ i below. least_within (entry limits i) (fraction v i) (range_in ranges i) (fraction_at ranges v i (h.kind ∙ h.follows) below w))

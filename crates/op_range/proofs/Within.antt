@@ -14,21 +14,21 @@ use Rattle.op_list.specs.Values.{four, number, fraction, are_fractions}
 use Rattle.op_range.specs.declared.range.ValueRange.{ValueRange}
 use Rattle.op_range.specs.Ranges.{from_to, only_zero, full, range_in, is_whole_number}
 use Rattle.op_range.specs.Within.{value_of, IsWithin, AreWithin}
-use Rattle.op_range.proofs.Fours.{at_four}
+use Rattle.op_list.proofs.Four.{get_or-four}
 
 -- ---- four values
 pub numbers_within : (f : ℕ → ValueRange) (g : ℕ → ℕ) → ((i : ℕ) → i < 4 → IsWithin (f i) (nat (g i))) → AreWithin (four f) (Numbers (four g))
 numbers_within f g each = record {
   each = λ i below.
-      subst (λ (r : ValueRange). IsWithin r (value_of (Numbers (four g)) i)) (sym (at_four f i only_zero below))
-      (subst (λ (n : ℕ). IsWithin (f i) (nat n)) (sym (at_four g i 0 below)) (each i below));
+      subst (λ (r : ValueRange). IsWithin r (value_of (Numbers (four g)) i)) (sym (get_or-four f i only_zero below))
+      (subst (λ (n : ℕ). IsWithin (f i) (nat n)) (sym (get_or-four g i 0 below)) (each i below));
 }
 
 pub fractions_within : (f : ℕ → ValueRange) (g : ℕ → ℚ) → ((i : ℕ) → i < 4 → IsWithin (f i) (g i)) → AreWithin (four f) (Fractions (four g))
 fractions_within f g each = record {
   each = λ i below.
-      subst (λ (r : ValueRange). IsWithin r (value_of (Fractions (four g)) i)) (sym (at_four f i only_zero below))
-      (subst (λ (x : ℚ). IsWithin (f i) x) (sym (at_four g i (nat 0) below)) (each i below));
+      subst (λ (r : ValueRange). IsWithin r (value_of (Fractions (four g)) i)) (sym (get_or-four f i only_zero below))
+      (subst (λ (x : ℚ). IsWithin (f i) x) (sym (get_or-four g i (nat 0) below)) (each i below));
 }
 
 pub number_at : (ranges : List ValueRange) (v : Values) (i : ℕ) → are_fractions v ≡ false → i < 4 → AreWithin ranges v → IsWithin (range_in ranges i) (nat (number v i))

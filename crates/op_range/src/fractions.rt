@@ -8,7 +8,7 @@ ghost use Rattle.op_range.specs.Ranges.{cleared_range, dithered_range, scaled_ra
 use crate::numbers::times;
 use crate::range::{Ranges, ValueRange};
 use frac_math::Frac;
-use std::cmp::Ordering;
+use op_list::{greater, lesser};
 
 pub fn cleared(range: &ValueRange, value: &Option<Frac>) -> ValueRange
     ensures { result ≡ cleared_range value.now range.now }
@@ -220,24 +220,6 @@ pub fn dithered(range: &ValueRange, k: u8) -> ValueRange
         least: added(&range.least, &ratio(1, places)),
         greatest: added(&range.greatest, &ratio(places - 1, places)),
         whole: false,
-    }
-}
-
-fn lesser(a: &Frac, b: &Frac) -> Frac
-    ensures { result ≡ min_ℚ a.now b.now }
-{
-    match a.cmp(b) {
-        Ordering::Greater => *b,
-        _ => *a,
-    }
-}
-
-fn greater(a: &Frac, b: &Frac) -> Frac
-    ensures { result ≡ max_ℚ a.now b.now }
-{
-    match a.cmp(b) {
-        Ordering::Greater => *a,
-        _ => *b,
     }
 }
 

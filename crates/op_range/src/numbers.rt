@@ -7,14 +7,6 @@ use crate::range::ValueRange;
 use frac_math::Frac;
 use std::cmp::Ordering;
 
-// The sum of four counts.
-pub fn total(counts: &[u8; 4]) -> u32
-    ensures { result ≡ sum counts.now }
-{
-    let [first, second, third, fourth] = *counts;
-    u32::from(first) + u32::from(second) + u32::from(third) + u32::from(fourth)
-}
-
 // Whole numbers from least to greatest.
 pub fn from_to(least: u64, greatest: u64) -> ValueRange
     ensures { result ≡ from_to least greatest }

@@ -3,9 +3,8 @@ ghost use Rattle.op_list.specs.Values.{four, entry};
 ghost use Rattle.op_list.specs.Apply.{row_of};
 ghost use Rattle.op_range.specs.Used.{is_missing, takes, used_before, is_used, any_of_four, used_from};
 
-use crate::numbers::total;
 use frac_math::Frac;
-use op_list::Op;
+use op_list::{Op, total};
 
 /// Which values are used, one flag a value.
 pub type Used = [bool; 4];

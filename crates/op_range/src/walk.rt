@@ -6,10 +6,10 @@ ghost use Rattle.op_list.specs.Typing.{may_follow, are_good};
 ghost use Rattle.op_range.specs.Ranges.{range as range_with, ranges_after, start_ranges, full, only_zero, swapped_range, left_range, right_range, converted_range, dithered_range, scaled_range, row_range, range_at_most, range_at_least, cleared_range, range_in};
 
 use crate::fractions::{cleared, dithered, limited_above, limited_below, mapped, scaled};
-use crate::numbers::{as_whole, from_to, full, shifted_left, shifted_right, swapped, total};
+use crate::numbers::{as_whole, from_to, full, shifted_left, shifted_right, swapped};
 use crate::range::{Ranges, ValueRange};
 use frac_math::Frac;
-use op_list::{Op, PixType, Stage};
+use op_list::{Op, PixType, Stage, total};
 
 fn read(elem: PixType, planes: &[u8; 4], palette: bool) -> Ranges
     ensures { result ≡ four (λ i. if palette || nat_lt i (sum planes.now) then full (bits elem) else only_zero) }
