@@ -10,3 +10,6 @@ pub mod RangeSteps
 pub mod SmallSteps
 pub mod States
 pub mod Compared
+pub mod Capping
+pub mod Widths
+pub mod Reaching

@@ -5,3 +5,5 @@ pub mod Ranges
 pub mod Within
 pub mod States
 pub mod Laws
+pub mod Width
+pub mod Capped

@@ -188,7 +188,7 @@ fn ratio(numerator: u64, denominator: u64) -> Frac
 }
 
 // 2 * 4^k
-fn dither_places(k: u8) -> u64
+pub fn dither_places(k: u8) -> u64
     requires { k ≤ 4 }
     ensures value { result ≡ 2 * 4 ^ k }
     ensures positive { 0 < result }
