@@ -7,6 +7,8 @@ pub mod laws;
 mod numbers;
 mod range;
 mod state;
+#[cfg(test)]
+mod tests;
 mod used;
 mod walk;
 mod width;
