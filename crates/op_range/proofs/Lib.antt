@@ -13,3 +13,4 @@ pub mod Compared
 pub mod Capping
 pub mod Widths
 pub mod Reaching
+pub mod Examples

@@ -7,3 +7,4 @@ pub mod States
 pub mod Laws
 pub mod Width
 pub mod Capped
+pub mod Examples
