@@ -3,7 +3,8 @@ use Rattle.std.specs.Prelude.{◌≡◌, false, ℕ, List}
 use Rattle.pix_meaning.specs.Pairs.{IsValidPair}
 use Rattle.pix_meaning.specs.Target.{target_frame}
 use Rattle.op_list.specs.Store.{HaveSameElements}
-use Rattle.op_build.specs.Shape.{element_type, element_counts}
+use Rattle.pix_desc.specs.Shape.{element_counts}
+use Rattle.op_build.specs.ElementType.{element_type}
 use Rattle.op_build.specs.Recipe.{recipe}
 use Rattle.sws_run.specs.declared.words.Task.{Task}
 use Rattle.sws_run.specs.declared.convert.Conversion.{Conversion}

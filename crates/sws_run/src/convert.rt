@@ -6,8 +6,9 @@ ghost use Rattle.pix_meaning.specs.Target.{target_frame};
 ghost use Rattle.sws_run.specs.Evaluated.{IsEvaluated};
 
 use frac_math::OutOfMemory;
-use op_build::{BuildFault, build, element_counts, element_type};
+use op_build::{BuildFault, build, element_type};
 use op_list::{OpList, PixType, PixelPosition, store_elements};
+use pix_desc::element_counts;
 use pix_meaning::Pair;
 use std::alloc::Global;
 
