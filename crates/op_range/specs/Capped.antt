@@ -1,6 +1,5 @@
 -- Numbers of which only those below 2^126 are told apart.
 use Rattle.std.specs.Prelude.{ℕ, ◌^◌, min, Bool, false, if◌then◌else◌, nat_lt, List, slice_index_or, Option, Some, None}
-use Rattle.op_list.specs.Values.{four}
 use Rattle.op_range.specs.declared.width.Width.{Width}
 use Rattle.op_range.specs.Width.{width_of, size_in}
 
@@ -18,4 +17,5 @@ capped_width w = if nat_lt w.denominator (2 ^ 126) then Some (width_of w.denomin
 abbrev pub first_true : List Bool → Option ℕ
 first_true flags =
     if slice_index_or flags 0 false then Some 0 else
-    (if slice_index_or flags 1 false then Some 1 else (if slice_index_or flags 2 false then Some 2 else (if slice_index_or flags 3 false then Some 3 else None)))
+    (if slice_index_or flags 1 false then Some 1 else
+    (if slice_index_or flags 2 false then Some 2 else (if slice_index_or flags 3 false then Some 3 else None)))

@@ -1,5 +1,5 @@
 -- A list whose width is known from outside: words to bytes, as the optimiser leaves them.
-use Rattle.std.specs.Prelude.{◌≡◌, ℕ, false, List, [], ◌∷◌, Option, Some, None, pos}
+use Rattle.std.specs.Prelude.{◌≡◌, ℕ, false, List, [], ◌∷◌, Some, None, pos}
 use Rattle.frac_math.specs.Fraction.{ℚ, nat, over}
 use Rattle.op_list.specs.declared.types.PixType.TheVariants.{U8, U16, Rat}
 use Rattle.op_list.specs.declared.op.Op.{Op}

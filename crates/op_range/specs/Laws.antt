@@ -1,5 +1,5 @@
 -- What the definitions keep: the laws that the functions of src/laws.rt prove.
-use Rattle.std.specs.Prelude.{◌≡◌, ◌<◌, ℕ, true, false, List, ◌++◌, All}
+use Rattle.std.specs.Prelude.{◌≡◌, ◌<◌, ℕ, true, false, List, All}
 use Rattle.op_list.specs.declared.types.Stage.{Stage}
 use Rattle.op_list.specs.declared.types.Stage.TheVariants.{Start}
 use Rattle.op_list.specs.declared.position.PixelPosition.{PixelPosition}
@@ -32,12 +32,14 @@ pub record MayStand (frame : List ℕ) (stage : Stage) (op : Op) (values : Value
 -- the ranges before an operation enclose the values, so those after it enclose the values that it leaves
 abbrev pub RangesEnclose : Type 0
 RangesEnclose = (frame : List ℕ) (position : PixelPosition) (stage : Stage) (op : Op) (ranges : List ValueRange) (values : Values)
-    → MayStand frame stage op values → AreWithin ranges values → FirstAreWithin (value_count op) (ranges_after stage op ranges) (apply frame position stage op values)
+    → MayStand frame stage op values → AreWithin ranges values
+    → FirstAreWithin (value_count op) (ranges_after stage op ranges) (apply frame position stage op values)
 
 -- numbers that have the bits of their type keep to it, under each operation but Write
 abbrev pub NumbersStaySmall : Type 0
 NumbersStaySmall = (frame : List ℕ) (position : PixelPosition) (stage : Stage) (op : Op) (values : Values)
-    → MayStand frame stage op values → is_write op ≡ false → AreSmall stage values → AreSmall (stage_after stage op) (apply frame position stage op values)
+    → MayStand frame stage op values → is_write op ≡ false → AreSmall stage values
+    → AreSmall (stage_after stage op) (apply frame position stage op values)
 
 -- the states of a whole list enclose it
 abbrev pub StatesEnclose : Type 0

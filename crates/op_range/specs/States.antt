@@ -1,5 +1,5 @@
 -- The answer for a list: for each operation, the range of each value after it, and whether what follows uses the value.
-use Rattle.std.specs.Prelude.{◌≡◌, ◌<◌, ℕ, Bool, false, List, [], ◌∷◌, slice_index_or, All, map, None}
+use Rattle.std.specs.Prelude.{◌≡◌, ◌<◌, ℕ, Bool, List, [], ◌∷◌, All, map}
 use Rattle.op_list.specs.declared.types.Stage.{Stage}
 use Rattle.op_list.specs.declared.types.Stage.TheVariants.{Start}
 use Rattle.op_list.specs.declared.position.PixelPosition.{PixelPosition}
@@ -25,7 +25,8 @@ state_of ranges used = record { comps = four (λ i. comp_range (range_in ranges 
 -- the states after each of some operations
 unfoldable pub states_from : Stage → List Op → List ValueRange → List StateRange
 states_from stage [] ranges = []
-states_from stage (op ∷ ops) ranges = let after = ranges_after stage op ranges in state_of after (used_from ops) ∷ states_from (stage_after stage op) ops after
+states_from stage (op ∷ ops) ranges = let after = ranges_after stage op ranges in state_of after (used_from ops)
+    ∷ states_from (stage_after stage op) ops after
 
 abbrev pub states_of : List Op → List StateRange
 states_of ops = states_from Start ops start_ranges
@@ -44,7 +45,8 @@ used_of state = map (λ comp. comp.used) state.comps
 abbrev pub OthersAreFree : List ℕ → PixelPosition → Stage → List Op → List Bool → Values → Type 0
 OthersAreFree frame position stage [] used values = Unit {0}
 OthersAreFree frame position stage (op ∷ ops) used values =
-    (other : Values) → Agree used values other → run_from frame position stage (op ∷ ops) other ≡ run_from frame position stage (op ∷ ops) values
+    (other : Values) → Agree used values other → run_from frame position stage (op ∷ ops) other
+    ≡ run_from frame position stage (op ∷ ops) values
 
 -- along some operations each state holds the values after its operation, and what it does not call used is free
 abbrev pub EnclosesRun : List ℕ → PixelPosition → Stage → List Op → Values → List StateRange → Type 0
@@ -58,4 +60,5 @@ EnclosesRun frame position stage (op ∷ ops) values (state ∷ states) =
 
 -- the states enclose the list at every pixel of every frame of bytes
 abbrev pub Encloses : List StateRange → List Op → Type 0
-Encloses states ops = (frame : List ℕ) (position : PixelPosition) → All (λ byte. byte < 256) frame → EnclosesRun frame position Start ops no_values states
+Encloses states ops = (frame : List ℕ) (position : PixelPosition) → All (λ byte. byte < 256) frame
+    → EnclosesRun frame position Start ops no_values states

@@ -33,13 +33,7 @@ pub fn product_below(a: u128, b: u128) -> Option<u128>
     ensures { result ≡ below_cap (a * b) }
 {
     match a.checked_mul(b) {
-        Some(product) => {
-            if product < CAP {
-                Some(product)
-            } else {
-                None
-            }
-        }
+        Some(product) => { if product < CAP { Some(product) } else { None } }
         None => None,
     }
 }

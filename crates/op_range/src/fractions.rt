@@ -3,7 +3,11 @@ ghost use Rattle.std.specs.Option.{option_and_then};
 ghost use Rattle.frac_math.specs.Fraction.{min_ℚ, max_ℚ, over};
 ghost use Rattle.frac_math.specs.Checked.{checked_sum};
 ghost use Rattle.op_list.specs.Values.{four, fraction_in};
-ghost use Rattle.op_range.specs.Ranges.{cleared_range, dithered_range, scaled_range, row_range, range_at_most, range_at_least, is_whole_number, is_whole_limit, sum_of, product_of, is_negative, least_product, greatest_product, keeps_whole, range_in, row_sum, limited, limited_or_limit};
+ghost use Rattle.op_range.specs.Ranges.{cleared_range, dithered_range, scaled_range, row_range};
+ghost use Rattle.op_range.specs.Ranges.{range_at_most, range_at_least, is_whole_number};
+ghost use Rattle.op_range.specs.Ranges.{is_whole_limit, sum_of, product_of, is_negative};
+ghost use Rattle.op_range.specs.Ranges.{least_product, greatest_product, keeps_whole, range_in};
+ghost use Rattle.op_range.specs.Ranges.{row_sum, limited, limited_or_limit};
 
 use crate::numbers::times;
 use crate::range::{Ranges, ValueRange};
@@ -146,7 +150,11 @@ fn greatest_terms(row: &[Frac; 5], ranges: &[ValueRange; 4]) -> [Option<Frac>; 4
 }
 
 fn stays_whole(row: &[Frac; 5], ranges: &[ValueRange; 4]) -> bool
-    ensures { result ≡ (keeps_whole (fraction_in row.now 0) (range_in ranges.now 0) && keeps_whole (fraction_in row.now 1) (range_in ranges.now 1) && keeps_whole (fraction_in row.now 2) (range_in ranges.now 2) && keeps_whole (fraction_in row.now 3) (range_in ranges.now 3) && is_whole_number (fraction_in row.now 4)) }
+    ensures { result ≡ (keeps_whole (fraction_in row.now 0) (range_in ranges.now 0)
+        && keeps_whole (fraction_in row.now 1) (range_in ranges.now 1)
+        && keeps_whole (fraction_in row.now 2) (range_in ranges.now 2)
+        && keeps_whole (fraction_in row.now 3) (range_in ranges.now 3)
+        && is_whole_number (fraction_in row.now 4)) }
 {
     keeps_whole(&row[0], &ranges[0])
         && keeps_whole(&row[1], &ranges[1])
@@ -156,14 +164,16 @@ fn stays_whole(row: &[Frac; 5], ranges: &[ValueRange; 4]) -> bool
 }
 
 fn least_sum(row: &[Frac; 5], ranges: &Ranges) -> Option<Frac>
-    ensures { result ≡ row_sum row.now (λ j. least_product (fraction_in row.now j) (range_in ranges.now j)) }
+    ensures { result ≡ row_sum row.now
+        (λ j. least_product (fraction_in row.now j) (range_in ranges.now j)) }
 {
     let terms = least_terms(row, ranges);
     row_sum(row, &terms)
 }
 
 fn greatest_sum(row: &[Frac; 5], ranges: &Ranges) -> Option<Frac>
-    ensures { result ≡ row_sum row.now (λ j. greatest_product (fraction_in row.now j) (range_in ranges.now j)) }
+    ensures { result ≡ row_sum row.now
+        (λ j. greatest_product (fraction_in row.now j) (range_in ranges.now j)) }
 {
     let terms = greatest_terms(row, ranges);
     row_sum(row, &terms)

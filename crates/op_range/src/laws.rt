@@ -3,7 +3,8 @@ ghost use Rattle.op_range.specs.FractionBoundLaws.{BoundsAreEnough};
 ghost use Rattle.op_range.specs.Examples.{WordsToBytes};
 ghost use Rattle.op_range.specs.Laws.{UnusedIsFree, RangesEnclose, NumbersStaySmall, StatesEnclose};
 
-/// Where the fractions have bounds, and the operations' bounds after these are there, the checked operations have the exact answers, within them.
+/// Where the fractions have bounds, and the operations' bounds after these are there, the checked
+/// operations have the exact answers, within them.
 pub fn bounds_are_enough()
     ensures { BoundsAreEnough }
 {}

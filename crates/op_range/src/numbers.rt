@@ -1,7 +1,10 @@
 ghost use Rattle.std.specs.Prelude.{◌≡◌, ◌<◌, ◌≤◌, ◌-◌, ◌^◌, ◌&&◌, if◌then◌else◌, sum};
 ghost use Rattle.std.specs.Option.{option_map};
 ghost use Rattle.frac_math.specs.Fraction.{whole, floor, is_at_most};
-ghost use Rattle.op_range.specs.Ranges.{from_to, full, times, lies_in_full, is_there_and, fits_full, where_it_fits, multiplied_range, floored_range, shifted_right, is_zero_bound, swapped_range, left_range, right_range, as_whole_range};
+ghost use Rattle.op_range.specs.Ranges.{from_to, full, times, lies_in_full, is_there_and};
+ghost use Rattle.op_range.specs.Ranges.{fits_full, where_it_fits, multiplied_range, floored_range};
+ghost use Rattle.op_range.specs.Ranges.{shifted_right, is_zero_bound, swapped_range, left_range};
+ghost use Rattle.op_range.specs.Ranges.{right_range, as_whole_range};
 
 use crate::range::ValueRange;
 use frac_math::Frac;
@@ -75,7 +78,11 @@ fn where_it_fits(range: &ValueRange, bits: u32, other: &ValueRange) -> ValueRang
     requires { bits ≤ 32 }
     ensures { result ≡ where_it_fits bits range.now other.now }
 {
-    if fits_full(range, bits) { *range } else { *other }
+    if fits_full(range, bits) {
+        *range
+    } else {
+        *other
+    }
 }
 
 // A bound times a fraction.

@@ -52,9 +52,12 @@ fn comps(ranges: &Ranges, used: &Used) -> [CompRange; 4]
     ]
 }
 
-/// What is known of the values after each operation of a whole list, in the order of its operations. The values of every pixel
-/// of every frame of bytes lie between the bounds that are there, are whole numbers where `whole` is true, and cannot change
-/// what Write is given where `used` is false; after the Write this is said of the first values, as many as are written.
+/// What is known of the values after each operation of a whole list, in the order of its
+/// operations. The values of every pixel
+/// of every frame of bytes lie between the bounds that are there, are whole numbers where `whole`
+/// is true, and cannot change
+/// what Write is given where `used` is false; after the Write this is said of the first values, as
+/// many as are written.
 pub fn ranges(alloc: Global, list: &OpList) -> Result<Vec<StateRange>, OutOfMemory>
     requires whole { ends_with_write list.now ≡ true }
     ensures value { IfOk result (λ states. states.items ≡ states_of list.now) }
@@ -74,7 +77,8 @@ fn append_states(
     ranges: &Ranges,
 ) -> Result<(), OutOfMemory>
     requires { are_typed stage ops.now ≡ true }
-    ensures { OnOk result (states.new.items ≡ states.old.items ++ states_from stage ops.now ranges.now) }
+    ensures { OnOk result
+        (states.new.items ≡ states.old.items ++ states_from stage ops.now ranges.now) }
 {
     match ops {
         [] => Ok(()),

@@ -1,4 +1,5 @@
-// Ranges, used values and widths from outside: those that a program over fractions of any size gives.
+// Ranges, used values and widths from outside: those that a program over fractions of any size
+// gives.
 ghost use Rattle.std.specs.Prelude.{◌≡◌, true};
 ghost use Rattle.op_list.specs.Typing.{ends_with_write};
 
@@ -48,7 +49,13 @@ fn is_told(alloc: Global, list: &OpList, wants: &[Known]) -> bool
     true
 }
 
-fn used(op: usize, value: usize, least: Option<Frac>, greatest: Option<Frac>, whole: bool) -> Known {
+fn used(
+    op: usize,
+    value: usize,
+    least: Option<Frac>,
+    greatest: Option<Frac>,
+    whole: bool,
+) -> Known {
     let used = true;
     Known {
         op,
@@ -245,8 +252,12 @@ fn whole_types_keep_their_bounds(rt: HostRuntime) {
         Op::SwapBytes,
         Op::RightShift { n: 9 },
         Op::Swizzle { from: [1, 2, 3, 0] },
-        Op::Pack { widths: [3, 4, 0, 0] },
-        Op::Unpack { widths: [2, 5, 0, 0] },
+        Op::Pack {
+            widths: [3, 4, 0, 0],
+        },
+        Op::Unpack {
+            widths: [2, 5, 0, 0],
+        },
         convert(PixType::U8),
         write(PixType::U8, 2),
     ];
@@ -298,5 +309,11 @@ fn widths_below_the_cap_fit(rt: HostRuntime) {
     };
     assert!(rt; has_fault(rt.alloc(), &[one_left, large], Some(1)));
     assert!(rt; has_fault(rt.alloc(), &[one_left, scale(0, 1), large], None));
-    assert!(rt; has_fault(rt.alloc(), &[large, scale(0, 1), scale(1 << 100, 1)], Some(0)));
+    assert!(rt;
+        has_fault(
+            rt.alloc(),
+            &[large, scale(0, 1), scale(1 << 100, 1)],
+            Some(0)
+        )
+    );
 }

@@ -1,7 +1,8 @@
 ghost use Rattle.std.specs.Prelude.{◌≡◌, ◌<◌, ◌≤◌, ◌&&◌, sum, slice_index, nat_eq, nat_lt};
 ghost use Rattle.op_list.specs.Values.{four, entry};
 ghost use Rattle.op_list.specs.Apply.{row_of};
-ghost use Rattle.op_range.specs.Used.{is_missing, takes, used_before, is_used, any_of_four, used_from};
+ghost use Rattle.op_range.specs.Used.{is_missing, takes, used_before, is_used, any_of_four};
+ghost use Rattle.op_range.specs.Used.{used_from};
 
 use frac_math::Frac;
 use op_list::{Op, total};
@@ -42,7 +43,9 @@ fn first_used(planes: &[u8; 4]) -> Used
 
 // The first value, where any used field has bits.
 fn used_by_fields(widths: &[u8; 4], used: &Used) -> Used
-    ensures { result ≡ four (λ i. nat_eq i 0 && any_of_four (λ j. is_used used.now j && nat_lt 0 (slice_index widths.now j))) }
+    ensures { result ≡ four
+        (λ i. nat_eq i 0 && any_of_four
+        (λ j. is_used used.now j && nat_lt 0 (slice_index widths.now j))) }
 {
     let any = used[0] && 0 < widths[0]
         || used[1] && 0 < widths[1]
@@ -86,7 +89,8 @@ fn is_left(used: bool, entry: &Option<Frac>) -> bool
 
 // The values from which a used one is taken.
 fn taken_from(from: &[u8; 4], used: &Used) -> Used
-    ensures { result ≡ four (λ i. any_of_four (λ j. is_used used.now j && nat_eq (slice_index from.now j) i)) }
+    ensures { result ≡ four
+        (λ i. any_of_four (λ j. is_used used.now j && nat_eq (slice_index from.now j) i)) }
 {
     [
         is_taken(from, used, 0),
@@ -107,7 +111,8 @@ fn is_taken(from: &[u8; 4], used: &Used, i: u8) -> bool
 
 // The values for which a used row has a coefficient other than 0.
 fn taken_by_rows(rows: &[[Frac; 5]; 4], used: &Used) -> Used
-    ensures { result ≡ four (λ i. any_of_four (λ j. is_used used.now j && takes (row_of rows.now j) i)) }
+    ensures { result ≡ four
+        (λ i. any_of_four (λ j. is_used used.now j && takes (row_of rows.now j) i)) }
 {
     [
         is_in_rows(rows, used, 0),

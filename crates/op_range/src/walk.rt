@@ -1,9 +1,13 @@
-ghost use Rattle.std.specs.Prelude.{◌≡◌, ◌<◌, ◌≤◌, ◌||◌, if◌then◌else◌, sum, slice_index, nat_lt, All, true, [], ◌∷◌};
+ghost use Rattle.std.specs.Prelude.{◌≡◌, ◌<◌, ◌≤◌, ◌||◌, if◌then◌else◌, sum, slice_index, nat_lt};
+ghost use Rattle.std.specs.Prelude.{All, true, [], ◌∷◌};
 ghost use Rattle.op_list.specs.Values.{four, entry};
 ghost use Rattle.op_list.specs.Apply.{row_of};
 ghost use Rattle.op_list.specs.Types.{bits};
 ghost use Rattle.op_list.specs.Typing.{may_follow, are_good};
-ghost use Rattle.op_range.specs.Ranges.{range as range_with, ranges_after, start_ranges, full, only_zero, swapped_range, left_range, right_range, converted_range, dithered_range, scaled_range, row_range, range_at_most, range_at_least, cleared_range, range_in};
+ghost use Rattle.op_range.specs.Ranges.{range as range_with, ranges_after, start_ranges, full};
+ghost use Rattle.op_range.specs.Ranges.{only_zero, swapped_range, left_range, right_range};
+ghost use Rattle.op_range.specs.Ranges.{converted_range, dithered_range, scaled_range, row_range};
+ghost use Rattle.op_range.specs.Ranges.{range_at_most, range_at_least, cleared_range, range_in};
 
 use crate::fractions::{cleared, dithered, limited_above, limited_below, mapped, scaled};
 use crate::numbers::{as_whole, from_to, full, shifted_left, shifted_right, swapped};
@@ -12,7 +16,8 @@ use frac_math::Frac;
 use op_list::{Op, PixType, Stage, total};
 
 fn read(elem: PixType, planes: &[u8; 4], palette: bool) -> Ranges
-    ensures { result ≡ four (λ i. if palette || nat_lt i (sum planes.now) then full (bits elem) else only_zero) }
+    ensures { result ≡ four
+        (λ i. if palette || nat_lt i (sum planes.now) then full (bits elem) else only_zero) }
 {
     let count = total(planes);
     let full = full(elem.bits());
@@ -92,7 +97,8 @@ pub fn start_ranges() -> Ranges
 }
 
 fn all_written(ranges: &Ranges) -> Ranges
-    ensures { result ≡ four (λ i. range_with (range_in ranges.now i).least (range_in ranges.now i).greatest true) }
+    ensures { result ≡ four
+        (λ i. range_with (range_in ranges.now i).least (range_in ranges.now i).greatest true) }
 {
     [
         written(&ranges[0]),

@@ -1,9 +1,16 @@
-ghost use Rattle.std.specs.Prelude.{◌≡◌, ◌<◌, ◌≤◌, ◌^◌, ◌*◌, ◌+◌, ◌↔◌, ◌||◌, true, false, None, if◌then◌else◌, nat_le, IsTrue, IfSome, All, unsigned_abs, slice_index, slice_index_or, ◌&&◌};
+ghost use Rattle.std.specs.Prelude.{◌≡◌, ◌<◌, ◌≤◌, ◌^◌, ◌*◌, ◌+◌, ◌↔◌, ◌||◌, true, false, None};
+ghost use Rattle.std.specs.Prelude.{if◌then◌else◌, nat_le, IsTrue, IfSome, All, unsigned_abs};
+ghost use Rattle.std.specs.Prelude.{slice_index, slice_index_or, ◌&&◌};
 ghost use Rattle.op_list.specs.Types.{is_rational};
 ghost use Rattle.op_list.specs.Values.{four, entry, fraction_in};
 ghost use Rattle.op_list.specs.Apply.{row_of};
 ghost use Rattle.op_list.specs.Typing.{are_good, are_typed};
-ghost use Rattle.op_range.specs.Width.{width_of, size_in, denominator_over, rows_denominator, entries_denominator, multiple_with, size_over, term_size, row_size, mapped_width, dithered_width, scaled_width, cleared_size, limited_size, cleared_width, limited_width, fractions_width, whole_width, width_after, own_width_from, width, IsLowestTooWide};
+ghost use Rattle.op_range.specs.Width.{width_of, size_in, denominator_over, rows_denominator};
+ghost use Rattle.op_range.specs.Width.{entries_denominator, multiple_with, size_over, term_size};
+ghost use Rattle.op_range.specs.Width.{row_size, mapped_width, dithered_width, scaled_width};
+ghost use Rattle.op_range.specs.Width.{cleared_size, limited_size, cleared_width, limited_width};
+ghost use Rattle.op_range.specs.Width.{fractions_width, whole_width, width_after, own_width_from};
+ghost use Rattle.op_range.specs.Width.{width, IsLowestTooWide};
 ghost use Rattle.op_range.specs.Capped.{capped, below_cap, capped_width, first_true};
 
 use crate::capped::{CAP, capped_product, capped_sum, common_multiple, factor, product_below};
@@ -97,7 +104,9 @@ fn constant_size(e: u128, row: &[Frac; 5], d: u128) -> u128
 }
 
 fn sum_of_four(terms: &[u128; 4]) -> u128
-    ensures { result ≡ capped (slice_index terms.now 0 + slice_index terms.now 1 + slice_index terms.now 2 + slice_index terms.now 3) }
+    ensures { result ≡ capped
+        (slice_index terms.now 0 + slice_index terms.now 1 + slice_index terms.now 2 + slice_index
+        terms.now 3) }
 {
     let [first, second, third, fourth] = *terms;
     capped_sum(capped_sum(capped_sum(first, second), third), fourth)
@@ -196,7 +205,9 @@ fn cleared(width: &Width, entries: &[Option<Frac>; 4]) -> Option<Width>
 }
 
 fn cleared_sizes(e: u128, width: &Width, entries: &[Option<Frac>; 4]) -> [u128; 4]
-    ensures { result ≡ four (λ i. capped (cleared_size e width.now.denominator (entry entries.now i) (size_in width.now i))) }
+    ensures { result ≡ four
+        (λ i. capped (cleared_size e width.now.denominator (entry entries.now i)
+        (size_in width.now i))) }
 {
     let d = width.denominator;
     [
@@ -228,7 +239,9 @@ fn limited(width: &Width, limits: &[Option<Frac>; 4]) -> Option<Width>
 }
 
 fn limited_sizes(e: u128, width: &Width, limits: &[Option<Frac>; 4]) -> [u128; 4]
-    ensures { result ≡ four (λ i. capped (limited_size e width.now.denominator (entry limits.now i) (size_in width.now i))) }
+    ensures { result ≡ four
+        (λ i. capped (limited_size e width.now.denominator (entry limits.now i)
+        (size_in width.now i))) }
 {
     let d = width.denominator;
     [
@@ -266,7 +279,8 @@ fn kept(width: &Width) -> Option<Width>
 // After a Swizzle.
 fn swizzled(width: &Width, from: &[u8; 4]) -> Option<Width>
     requires { All (λ i. i < 4) from.now }
-    ensures { result ≡ capped_width (width_of width.now.denominator (λ i. size_in width.now (slice_index from.now i))) }
+    ensures { result ≡ capped_width
+        (width_of width.now.denominator (λ i. size_in width.now (slice_index from.now i))) }
 {
     kept(&Width {
         denominator: width.denominator,
@@ -351,7 +365,9 @@ fn reached(ops: &[Op], stage: Stage, width: &Width) -> [bool; 4]
 
 // The values that reach the cap here, where the values are fractions, or behind.
 fn reached_by(rational: bool, sizes: &[u128; 4], behind: &[bool; 4]) -> [bool; 4]
-    ensures { result ≡ four (λ i. rational && nat_le (2 ^ 126) (slice_index sizes.now i) || slice_index_or behind.now i false) }
+    ensures { result ≡ four
+        (λ i. rational && nat_le (2 ^ 126) (slice_index sizes.now i)
+        || slice_index_or behind.now i false) }
 {
     [
         rational && sizes[0] >= CAP || behind[0],
@@ -361,8 +377,10 @@ fn reached_by(rational: bool, sizes: &[u128; 4], behind: &[bool; 4]) -> [bool; 4
     ]
 }
 
-/// The lowest value whose own width reaches 2^126: where the list computes in fractions, the greatest of the common denominator
-/// and the value's numerator over it, after any operation. None where all are below. It takes no memory.
+/// The lowest value whose own width reaches 2^126: where the list computes in fractions, the
+/// greatest of the common denominator
+/// and the value's numerator over it, after any operation. None where all are below. It takes no
+/// memory.
 pub fn width_fault(list: &OpList) -> Option<u8>
     ensures none { (result ≡ None) ↔ (width list.now < 2 ^ 126) }
     ensures lowest { IfSome result (λ i. IsLowestTooWide list.now i) }

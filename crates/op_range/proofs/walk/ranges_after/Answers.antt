@@ -8,7 +8,8 @@ pub packed-requires : goal.packed-requires
 packed-requires c = pack_widths c.args.stage _ (rw c.in-Pack.is at c.requires.good)
 
 pub all_shifted_left-requires-clause-n : goal.all_shifted_left-requires-clause-n
-all_shifted_left-requires-clause-n c = rw c.bits-in-LeftShift.ensures (left_shift c.args.stage _ (rw c.in-LeftShift.is at c.requires.good))
+all_shifted_left-requires-clause-n c = rw c.bits-in-LeftShift.ensures
+    (left_shift c.args.stage _ (rw c.in-LeftShift.is at c.requires.good))
 
 pub all_shifted_right-requires : goal.all_shifted_right-requires
 all_shifted_right-requires c = right_shift c.args.stage _ (rw c.in-RightShift.is at c.requires.good)

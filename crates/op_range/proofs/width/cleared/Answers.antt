@@ -8,5 +8,6 @@ pub returns-in_err-e : goal.returns-in_err-e
 returns-in_err-e c =
     c.from_residual.ensures
     ∙ too_wide c.args.width.now.denominator (entries_denominator c.args.entries.now)
-    (λ i. cleared_size (entries_denominator c.args.entries.now) c.args.width.now.denominator (entry c.args.entries.now i) (size_in c.args.width.now i))
+    (λ i. cleared_size (entries_denominator c.args.entries.now) c.args.width.now.denominator (entry c.args.entries.now i)
+    (size_in c.args.width.now i))
     c.entries_denominator.result c.requires c.entries_denominator.ensures (c.in_err-e.was {u = tt})

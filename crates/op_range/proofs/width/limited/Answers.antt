@@ -8,5 +8,6 @@ pub returns-in_err-e : goal.returns-in_err-e
 returns-in_err-e c =
     c.from_residual.ensures
     ∙ too_wide c.args.width.now.denominator (entries_denominator c.args.limits.now)
-    (λ i. limited_size (entries_denominator c.args.limits.now) c.args.width.now.denominator (entry c.args.limits.now i) (size_in c.args.width.now i))
+    (λ i. limited_size (entries_denominator c.args.limits.now) c.args.width.now.denominator (entry c.args.limits.now i)
+    (size_in c.args.width.now i))
     c.entries_denominator.result c.requires c.entries_denominator.ensures (c.in_err-e.was {u = tt})

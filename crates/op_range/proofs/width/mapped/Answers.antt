@@ -8,4 +8,5 @@ pub returns-in_err-e : goal.returns-in_err-e
 returns-in_err-e c =
     c.from_residual.ensures
     ∙ too_wide c.args.width.now.denominator (rows_denominator c.args.rows.now)
-    (λ i. row_size (rows_denominator c.args.rows.now) (row_of c.args.rows.now i) c.args.width.now) c.rows_denominator.result c.requires c.rows_denominator.ensures (c.in_err-e.was {u = tt})
+    (λ i. row_size (rows_denominator c.args.rows.now) (row_of c.args.rows.now i) c.args.width.now) c.rows_denominator.result c.requires
+    c.rows_denominator.ensures (c.in_err-e.was {u = tt})

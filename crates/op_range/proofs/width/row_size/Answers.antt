@@ -10,6 +10,7 @@ pub returns : goal.returns
 returns c =
     let term = λ (j : ℕ). term_size c.args.e c.args.row.now c.args.width.now j in
     let terms : c.sum_of_four.result ≡ capped (term 0 + term 1 + term 2 + term 3) =
-        four_known c.sum_of_four.result c.term_sizes-terms.result term c.sum_of_four.ensures c.term_sizes-terms.ensures in
+    four_known c.sum_of_four.result c.term_sizes-terms.result term c.sum_of_four.ensures c.term_sizes-terms.ensures in
     plus_known c.capped_sum.result c.sum_of_four.result c.constant_size-constant.result (term 0 + term 1 + term 2 + term 3)
-    (size_over c.args.e (fraction_in c.args.row.now 4) * c.args.width.now.denominator) c.capped_sum.ensures terms c.constant_size-constant.ensures
+    (size_over c.args.e (fraction_in c.args.row.now 4) * c.args.width.now.denominator) c.capped_sum.ensures terms
+    c.constant_size-constant.ensures
