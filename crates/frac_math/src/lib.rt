@@ -12,5 +12,6 @@ mod product;
 mod tests;
 
 pub use dither::dither_at;
+pub use divisor::common_divisor;
 pub use frac::Frac;
 pub use memory::OutOfMemory;

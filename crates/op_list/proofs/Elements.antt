@@ -39,7 +39,7 @@ element_ends elem planes frame position k h below =
     omega (arith, ends, h.size)
 
 -- ---- what a good Read says
-counts_few : (most : ℕ) (ns : List ℕ) → are_counts most ns ≡ true → (sum ns ≤ most) × (1 ≤ sum ns)
+pub counts_few : (most : ℕ) (ns : List ℕ) → are_counts most ns ≡ true → (sum ns ≤ most) × (1 ≤ sum ns)
 counts_few most ns h =
     let p = and_parts (are_in_front ns && nat_le 1 (sum ns)) (nat_le (sum ns) most) h in
     let q = and_parts (are_in_front ns) (nat_le 1 (sum ns)) p.0 in

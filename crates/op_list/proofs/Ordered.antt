@@ -13,7 +13,7 @@ le_unless_greater Greater x y h not = absurd (not refl)
 above : (x y : ℚ) → order x y ≡ Greater → y <ℚ x
 above x y e = rw e at (order_is x y)
 
-not_above : (x y : ℚ) → (order x y ≡ Greater → ⊥) → x ≤ℚ y
+pub not_above : (x y : ℚ) → (order x y ≡ Greater → ⊥) → x ≤ℚ y
 not_above x y not = le_unless_greater (order x y) x y (order_is x y) not
 
 pub min-above : (x y : ℚ) → order x y ≡ Greater → min_ℚ x y ≡ y

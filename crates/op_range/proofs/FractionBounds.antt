@@ -1,5 +1,6 @@
 -- The checked sum and product of fractions with small bounds are there, and what bounds they have.
-use Rattle.std.proofs.Common.{subst, ◌≡◌, ℕ, zero, suc, ◌+◌, ◌*◌, ◌/◌, ◌^◌, ◌<◌, ◌≤◌, Bool, true, false, ◌&&◌, if◌then◌else◌, ltb-true, eqb-true, ℤ, pos, negsuc, ◌+ℤ◌, ◌*ℤ◌, [], ◌∷◌, refl, sym, ◌∙◌, ap, arith}
+use Rattle.std.proofs.Common.{subst, ◌≡◌, ℕ, zero, suc, ◌+◌, ◌*◌, ◌/◌, ◌^◌, ◌<◌, ◌≤◌, Bool, true, false, ◌&&◌, if◌then◌else◌, ltb-true}
+use Rattle.std.proofs.Common.{eqb-true, ℤ, pos, negsuc, ◌+ℤ◌, ◌*ℤ◌, [], ◌∷◌, refl, sym, ◌∙◌, ap, arith}
 use Rattle.std.specs.Prelude.{Some, nat_eq, unsigned_abs}
 use Rattle.std.proofs.lemmas.Int.{ints, unsigned_abs-mul}
 use Rattle.std.proofs.Math.Nat.{div-mul_cancel, pos_of_dvd_of_pos, dvd-mul_right}
@@ -17,7 +18,8 @@ use Rattle.frac_math.proofs.FractionRing.{itself, change, mul_stands, common_add
 use Rattle.frac_math.proofs.CheckedCalls.{checked_sum_some, checked_product_some}
 use Rattle.frac_math.proofs.FractionOrder.{min_cases, max_cases}
 use Rattle.frac_math.proofs.DitherLaws.{index_number, index_number_below, dither_stands}
-use Rattle.op_range.specs.FractionBounds.{FractionBound, HasBound, bound, bound_of, is_small, factor, other_factor, reduced_bound, both_bound, dither_bound}
+use Rattle.op_range.specs.FractionBounds.{FractionBound, HasBound, bound, bound_of, is_small, factor, other_factor, reduced_bound}
+use Rattle.op_range.specs.FractionBounds.{both_bound, dither_bound}
 
 -- ---- sizes
 fits_of_size : (z : ℤ) (n : ℕ) → unsigned_abs z ≤ n → n < 2 ^ 127 → Fits z
@@ -69,15 +71,19 @@ crossed : (d e p q g : ℕ) → p * g ≡ d → q * g ≡ e → d * q ≡ e * p
 crossed d e p q g s t = omega (arith, ap (λ x. x * q) s, ap (λ x. x * p) t)
 
 pub common : (d e : ℕ) → d * factor d e ≡ e * other_factor d e
-common d e = crossed d e (other_factor d e) (factor d e) (gcd d e) (div-mul_cancel (gcd d e) (gcd-is d e).0) (div-mul_cancel (gcd d e) (gcd-is d e).1)
+common d e = crossed d e (other_factor d e) (factor d e) (gcd d e) (div-mul_cancel (gcd d e) (gcd-is d e).0)
+    (div-mul_cancel (gcd d e) (gcd-is d e).1)
 
 -- both over the least common multiple
-pub left_raised : (x y : ℚ) (b c : FractionBound) → HasBound x b → HasBound y c → HasBound x (bound (b.denominator * factor b.denominator c.denominator) (b.size * factor b.denominator c.denominator))
+pub left_raised : (x y : ℚ) (b c : FractionBound) → HasBound x b → HasBound y c
+    → HasBound x (bound (b.denominator * factor b.denominator c.denominator) (b.size * factor b.denominator c.denominator))
 left_raised x y b c h k = raised x b.denominator b.size _ h (factor_positive b.denominator c.denominator k.stands.positive)
 
-pub right_raised : (x y : ℚ) (b c : FractionBound) → HasBound x b → HasBound y c → HasBound y (bound (b.denominator * factor b.denominator c.denominator) (c.size * other_factor b.denominator c.denominator))
+pub right_raised : (x y : ℚ) (b c : FractionBound) → HasBound x b → HasBound y c
+    → HasBound y (bound (b.denominator * factor b.denominator c.denominator) (c.size * other_factor b.denominator c.denominator))
 right_raised x y b c h k =
-    subst (λ (l : ℕ). HasBound y (bound l (c.size * other_factor b.denominator c.denominator))) (sym (common b.denominator c.denominator))
+    subst (λ (l : ℕ). HasBound y (bound l (c.size * other_factor b.denominator c.denominator)))
+    (sym (common b.denominator c.denominator))
     (raised y c.denominator c.size _ k (other_positive b.denominator c.denominator h.stands.positive))
 
 -- ---- a sum
@@ -92,17 +98,22 @@ pub two_small : (a b : ℕ) → (is_small a && is_small b) ≡ true → (a < 2 ^
 two_small a b h = let p = and_parts _ _ h in (ltb-true a (2 ^ 127) p.0, ltb-true b (2 ^ 127) p.1)
 
 pub sum_there : (x y : ℚ) (b c : FractionBound) → HasBound x b → HasBound y c
-    → b.size * c.denominator + c.size * b.denominator < 2 ^ 127 → b.denominator * c.denominator < 2 ^ 127 → checked_sum x y ≡ Some (x +ℚ y)
+    → b.size * c.denominator + c.size * b.denominator < 2 ^ 127 → b.denominator * c.denominator < 2 ^ 127
+    → checked_sum x y ≡ Some (x +ℚ y)
 sum_there x y b c h k s t =
-    let left : unsigned_abs (x.numerator *ℤ pos y.denominator) ≤ b.size * c.denominator = size_mul x.numerator (pos y.denominator) _ _ (numerator_most x b h) (denominator_most y c k) in
-    let right : unsigned_abs (y.numerator *ℤ pos x.denominator) ≤ c.size * b.denominator = size_mul y.numerator (pos x.denominator) _ _ (numerator_most y c k) (denominator_most x b h) in
-    let sum : unsigned_abs (x.numerator *ℤ pos y.denominator +ℤ y.numerator *ℤ pos x.denominator) ≤ b.size * c.denominator + c.size * b.denominator =
+    let left : unsigned_abs (x.numerator *ℤ pos y.denominator) ≤ b.size * c.denominator = size_mul x.numerator (pos y.denominator) _ _
+    (numerator_most x b h) (denominator_most y c k) in
+    let right : unsigned_abs (y.numerator *ℤ pos x.denominator) ≤ c.size * b.denominator = size_mul y.numerator (pos x.denominator) _ _
+    (numerator_most y c k) (denominator_most x b h) in
+    let sum : unsigned_abs (x.numerator *ℤ pos y.denominator +ℤ y.numerator *ℤ pos x.denominator) ≤ b.size * c.denominator + c.size
+    * b.denominator =
     omega (arith, size_add (x.numerator *ℤ pos y.denominator) (y.numerator *ℤ pos x.denominator), left, right) in
     checked_sum_some x y (record {
       left = fits_of_size (x.numerator *ℤ pos y.denominator) _ left (omega (arith, s));
       right = fits_of_size (y.numerator *ℤ pos x.denominator) _ right (omega (arith, s));
       sum = fits_of_size (x.numerator *ℤ pos y.denominator +ℤ y.numerator *ℤ pos x.denominator) _ sum s;
-      denominator = fits_of_size (pos x.denominator *ℤ pos y.denominator) _ (size_mul (pos x.denominator) (pos y.denominator) _ _ (denominator_most x b h) (denominator_most y c k)) t;
+      denominator = fits_of_size (pos x.denominator *ℤ pos y.denominator) _
+          (size_mul (pos x.denominator) (pos y.denominator) _ _ (denominator_most x b h) (denominator_most y c k)) t;
     })
 
 pub sum_bounded : (x y : ℚ) (b c : FractionBound) → HasBound x b → HasBound y c
@@ -114,11 +125,14 @@ pub product_there : (x y : ℚ) (b c : FractionBound) → HasBound x b → HasBo
     → b.size * c.size < 2 ^ 127 → b.denominator * c.denominator < 2 ^ 127 → checked_product x y ≡ Some (x *ℚ y)
 product_there x y b c h k s t =
     checked_product_some x y (record {
-      numerator = fits_of_size (x.numerator *ℤ y.numerator) _ (size_mul x.numerator y.numerator _ _ (numerator_most x b h) (numerator_most y c k)) s;
-      denominator = fits_of_size (pos x.denominator *ℤ pos y.denominator) _ (size_mul (pos x.denominator) (pos y.denominator) _ _ (denominator_most x b h) (denominator_most y c k)) t;
+      numerator = fits_of_size (x.numerator *ℤ y.numerator) _
+          (size_mul x.numerator y.numerator _ _ (numerator_most x b h) (numerator_most y c k)) s;
+      denominator = fits_of_size (pos x.denominator *ℤ pos y.denominator) _
+          (size_mul (pos x.denominator) (pos y.denominator) _ _ (denominator_most x b h) (denominator_most y c k)) t;
     })
 
-pub product_bounded : (x y : ℚ) (b c : FractionBound) → HasBound x b → HasBound y c → HasBound (x *ℚ y) (bound (b.denominator * c.denominator) (b.size * c.size))
+pub product_bounded : (x y : ℚ) (b c : FractionBound) → HasBound x b → HasBound y c
+    → HasBound (x *ℚ y) (bound (b.denominator * c.denominator) (b.size * c.size))
 product_bounded x y b c h k = record {
   numerator = h.numerator *ℤ k.numerator;
   stands = mul_stands x y h.numerator k.numerator b.denominator c.denominator h.stands k.stands;
@@ -138,7 +152,8 @@ reduced_by x b true e h =
     let most : unsigned_abs h.numerator ≤ 0 = omega (arith, h.most, e refl) in
     record {
       numerator = pos 0;
-      stands = change x h.numerator (pos 0) b.denominator 1 h.stands (omega arith) (zero_over h.numerator b.denominator (zero_size h.numerator most));
+      stands = change x h.numerator (pos 0) b.denominator 1 h.stands (omega arith)
+          (zero_over h.numerator b.denominator (zero_size h.numerator most));
       most = omega arith;
     }
 
@@ -153,14 +168,17 @@ right_bounded : (x y : ℚ) (b c : FractionBound) → HasBound x b → HasBound 
 right_bounded x y b c h k = wider y _ _ _ (right_raised x y b c h k) (omega arith)
 
 pub min_bounded : (x y : ℚ) (b c : FractionBound) → HasBound x b → HasBound y c → HasBound (min_ℚ x y) (both_bound b c)
-min_bounded x y b c h k = min_cases (λ z. HasBound z (both_bound b c)) x y (λ p. left_bounded x y b c h k) (λ p. right_bounded x y b c h k)
+min_bounded x y b c h k = min_cases (λ z. HasBound z (both_bound b c)) x y (λ p. left_bounded x y b c h k)
+    (λ p. right_bounded x y b c h k)
 
 pub max_bounded : (x y : ℚ) (b c : FractionBound) → HasBound x b → HasBound y c → HasBound (max_ℚ x y) (both_bound b c)
-max_bounded x y b c h k = max_cases (λ z. HasBound z (both_bound b c)) x y (λ p. right_bounded x y b c h k) (λ p. left_bounded x y b c h k)
+max_bounded x y b c h k = max_cases (λ z. HasBound z (both_bound b c)) x y (λ p. right_bounded x y b c h k)
+    (λ p. left_bounded x y b c h k)
 
 -- ---- the dither
 dither_itself : (k x y : ℕ) → HasBound (dither_at k x y) (bound (2 * 4 ^ k) (2 * 4 ^ k))
-dither_itself k x y = record { numerator = pos (2 * index_number k x y + 1); stands = dither_stands k x y; most = omega (arith, index_number_below k x y) }
+dither_itself k x y = record
+    { numerator = pos (2 * index_number k x y + 1); stands = dither_stands k x y; most = omega (arith, index_number_below k x y) }
 
 pub dither_bounded : (k x y : ℕ) → HasBound (dither_at k x y) (dither_bound k)
 dither_bounded zero x y = raised (dither_at 0 x y) 2 2 256 (dither_itself 0 x y) (omega arith)

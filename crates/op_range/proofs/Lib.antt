@@ -1,6 +1,6 @@
 pub mod FractionBounds
 pub mod FractionBoundSteps
-pub mod Fours
+pub mod AnyOfFour
 pub mod Agreeing
 pub mod UsedSteps
 pub mod Within
@@ -9,3 +9,8 @@ pub mod FractionRanges
 pub mod RangeSteps
 pub mod SmallSteps
 pub mod States
+pub mod Compared
+pub mod Capping
+pub mod Widths
+pub mod Reaching
+pub mod Examples

@@ -1,5 +1,6 @@
 -- What it takes for values to lie within ranges.
-use Rattle.std.proofs.Common.{◌≡◌, ℕ, zero, suc, ◌+◌, ◌-◌, ◌*◌, ◌^◌, ◌<◌, ◌≤◌, Bool, true, false, if◌then◌else◌, List, ℤ, pos, negsuc, ◌≤ℤ◌, nat_eq, eqb-true, subst, refl, sym, ◌∙◌, ap, arith}
+use Rattle.std.proofs.Common.{◌≡◌, ℕ, ◌-◌, ◌^◌, ◌<◌, ◌≤◌, Bool, true, false, if◌then◌else◌, List, pos, eqb-true, subst, refl, sym}
+use Rattle.std.proofs.Common.{arith}
 use Rattle.std.specs.Prelude.{Option, Some, None, IfSome}
 use Rattle.std.specs.Option.{option_map, option_and_then}
 use Rattle.std.proofs.lemmas.Int.{ints}
@@ -14,28 +15,32 @@ use Rattle.op_list.specs.Values.{four, number, fraction, are_fractions}
 use Rattle.op_range.specs.declared.range.ValueRange.{ValueRange}
 use Rattle.op_range.specs.Ranges.{from_to, only_zero, full, range_in, is_whole_number}
 use Rattle.op_range.specs.Within.{value_of, IsWithin, AreWithin}
-use Rattle.op_range.proofs.Fours.{at_four}
+use Rattle.op_list.proofs.Four.{get_or-four}
 
 -- ---- four values
-pub numbers_within : (f : ℕ → ValueRange) (g : ℕ → ℕ) → ((i : ℕ) → i < 4 → IsWithin (f i) (nat (g i))) → AreWithin (four f) (Numbers (four g))
+pub numbers_within : (f : ℕ → ValueRange) (g : ℕ → ℕ) → ((i : ℕ) → i < 4 → IsWithin (f i) (nat (g i)))
+    → AreWithin (four f) (Numbers (four g))
 numbers_within f g each = record {
   each = λ i below.
-      subst (λ (r : ValueRange). IsWithin r (value_of (Numbers (four g)) i)) (sym (at_four f i only_zero below))
-      (subst (λ (n : ℕ). IsWithin (f i) (nat n)) (sym (at_four g i 0 below)) (each i below));
+      subst (λ (r : ValueRange). IsWithin r (value_of (Numbers (four g)) i)) (sym (get_or-four f i only_zero below))
+      (subst (λ (n : ℕ). IsWithin (f i) (nat n)) (sym (get_or-four g i 0 below)) (each i below));
 }
 
-pub fractions_within : (f : ℕ → ValueRange) (g : ℕ → ℚ) → ((i : ℕ) → i < 4 → IsWithin (f i) (g i)) → AreWithin (four f) (Fractions (four g))
+pub fractions_within : (f : ℕ → ValueRange) (g : ℕ → ℚ) → ((i : ℕ) → i < 4 → IsWithin (f i) (g i))
+    → AreWithin (four f) (Fractions (four g))
 fractions_within f g each = record {
   each = λ i below.
-      subst (λ (r : ValueRange). IsWithin r (value_of (Fractions (four g)) i)) (sym (at_four f i only_zero below))
-      (subst (λ (x : ℚ). IsWithin (f i) x) (sym (at_four g i (nat 0) below)) (each i below));
+      subst (λ (r : ValueRange). IsWithin r (value_of (Fractions (four g)) i)) (sym (get_or-four f i only_zero below))
+      (subst (λ (x : ℚ). IsWithin (f i) x) (sym (get_or-four g i (nat 0) below)) (each i below));
 }
 
-pub number_at : (ranges : List ValueRange) (v : Values) (i : ℕ) → are_fractions v ≡ false → i < 4 → AreWithin ranges v → IsWithin (range_in ranges i) (nat (number v i))
+pub number_at : (ranges : List ValueRange) (v : Values) (i : ℕ) → are_fractions v ≡ false → i < 4 → AreWithin ranges v
+    → IsWithin (range_in ranges i) (nat (number v i))
 number_at ranges (Numbers v) i kind below h = h.each i below
 number_at ranges (Fractions v) i kind below h = absurd (cc)
 
-pub fraction_at : (ranges : List ValueRange) (v : Values) (i : ℕ) → are_fractions v ≡ true → i < 4 → AreWithin ranges v → IsWithin (range_in ranges i) (fraction v i)
+pub fraction_at : (ranges : List ValueRange) (v : Values) (i : ℕ) → are_fractions v ≡ true → i < 4 → AreWithin ranges v
+    → IsWithin (range_in ranges i) (fraction v i)
 fraction_at ranges (Fractions v) i kind below h = h.each i below
 fraction_at ranges (Numbers v) i kind below h = absurd (cc)
 
@@ -60,7 +65,8 @@ pub whole_is : (x : ℚ) → is_whole_number x ≡ true → x ≡ whole x.numera
 whole_is x h = same_fields x (whole x.numerator) refl (eqb-true x.denominator 1 h)
 
 -- ---- bounds that are there
-pub if_and_then : (f : ℚ → Option ℚ) (o : Option ℚ) (P Q : ℚ → Type 0) → IfSome o P → ((x : ℚ) → P x → IfSome (f x) Q) → IfSome (option_and_then f o) Q
+pub if_and_then : (f : ℚ → Option ℚ) (o : Option ℚ) (P Q : ℚ → Type 0) → IfSome o P → ((x : ℚ) → P x → IfSome (f x) Q)
+    → IfSome (option_and_then f o) Q
 if_and_then f None P Q h make = tt
 if_and_then f (Some x) P Q h make = make x h
 

@@ -8,10 +8,12 @@ use Rattle.op_list.specs.Run.{run_from, checked_run_from}
 use Rattle.op_range.specs.FractionBounds.{FractionBound, HaveBounds, bounds_from}
 
 -- the checked answer is the exact one, and its fractions have these bounds
-pub record IsBoundedRun (frame : List ℕ) (place : PixelPosition) (stage : Stage) (ops : List Op) (values : Values) (bounds : List FractionBound) : Type 0 where
-  pub there : checked_run_from frame place stage ops values ≡ Some (run_from frame place stage ops values)
-  pub bounded : HaveBounds (run_from frame place stage ops values) bounds
+pub record IsBoundedRun (frame : List ℕ) (position : PixelPosition) (stage : Stage) (ops : List Op) (values : Values)
+    (bounds : List FractionBound) : Type 0 where
+  pub there : checked_run_from frame position stage ops values ≡ Some (run_from frame position stage ops values)
+  pub bounded : HaveBounds (run_from frame position stage ops values) bounds
 
 abbrev pub BoundsAreEnough : Type 0
-BoundsAreEnough = (frame : List ℕ) (place : PixelPosition) (stage : Stage) (ops : List Op) (values : Values) (bounds after : List FractionBound)
-    → HaveBounds values bounds → bounds_from ops bounds ≡ Some after → IsBoundedRun frame place stage ops values after
+BoundsAreEnough = (frame : List ℕ) (position : PixelPosition) (stage : Stage) (ops : List Op) (values : Values)
+    (bounds after : List FractionBound)
+    → HaveBounds values bounds → bounds_from ops bounds ≡ Some after → IsBoundedRun frame position stage ops values after

@@ -1,11 +1,14 @@
--- A denominator and a size that bound a fraction where it is evaluated, and what an operation on four fractions makes of them: none where a number of the checked calls may leave 127 bits.
-use Rattle.std.specs.Prelude.{ℕ, suc, ◌+◌, ◌*◌, ◌/◌, ◌^◌, ◌≤◌, Bool, ◌&&◌, if◌then◌else◌, nat_lt, nat_eq, List, [], ◌∷◌, slice_index_or, Option, Some, None, ℤ, unsigned_abs}
+-- A denominator and a size that bound a fraction where it is evaluated, and what an operation on four fractions makes of them: none
+-- where a number of the checked calls may leave 127 bits.
+use Rattle.std.specs.Prelude.{ℕ, suc, ◌+◌, ◌*◌, ◌/◌, ◌^◌, ◌≤◌, Bool, ◌&&◌, if◌then◌else◌, nat_lt, nat_eq, List, [], ◌∷◌, slice_index_or}
+use Rattle.std.specs.Prelude.{Option, Some, None, ℤ, unsigned_abs}
 use Rattle.std.specs.Option.{option_and_then}
 use Rattle.frac_math.specs.Gcd.{gcd}
 use Rattle.frac_math.specs.Fraction.{ℚ}
 use Rattle.frac_math.specs.Standing.{Stands}
 use Rattle.op_list.specs.declared.op.Op.{Op}
-use Rattle.op_list.specs.declared.op.Op.TheVariants.{Read, Write, SwapBytes, Unpack, Pack, Clear, LeftShift, RightShift, Swizzle, Convert, Dither, Linear, Scale, Min, Max}
+use Rattle.op_list.specs.declared.op.Op.TheVariants.{Read, Write, SwapBytes, Unpack, Pack, Clear, LeftShift, RightShift, Swizzle}
+use Rattle.op_list.specs.declared.op.Op.TheVariants.{Convert, Dither, Linear, Scale, Min, Max}
 use Rattle.op_list.specs.declared.values.Values.{Values}
 use Rattle.op_list.specs.Values.{four, all_four, fraction, fraction_in, entry}
 use Rattle.op_list.specs.Apply.{row_of}
@@ -59,7 +62,8 @@ both_bound x y =
 
 unfoldable pub sum_bound : FractionBound → FractionBound → Option FractionBound
 sum_bound x y =
-    if is_small (x.size * y.denominator + y.size * x.denominator) && is_small (x.denominator * y.denominator) then Some (both_bound x y) else None
+    if is_small (x.size * y.denominator + y.size * x.denominator) && is_small (x.denominator * y.denominator) then Some
+    (both_bound x y) else None
 
 unfoldable pub product_bound : FractionBound → FractionBound → Option FractionBound
 product_bound x y =
@@ -72,7 +76,8 @@ dither_bound (suc (suc (suc (suc (suc k))))) = bound (2 * 4 ^ suc (suc (suc (suc
 dither_bound k = bound 512 512
 
 abbrev pub term_bound : List ℚ → List FractionBound → ℕ → FractionBound → Option FractionBound
-term_bound row bounds i total = option_and_then (λ term. sum_bound total term) (product_bound (bound_of (fraction_in row i)) (bound_in bounds i))
+term_bound row bounds i total = option_and_then (λ term. sum_bound total term)
+    (product_bound (bound_of (fraction_in row i)) (bound_in bounds i))
 
 unfoldable pub row_bound : List ℚ → List FractionBound → Option FractionBound
 row_bound row bounds =

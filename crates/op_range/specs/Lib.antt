@@ -5,3 +5,6 @@ pub mod Ranges
 pub mod Within
 pub mod States
 pub mod Laws
+pub mod Width
+pub mod Capped
+pub mod Examples

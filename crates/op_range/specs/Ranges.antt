@@ -1,5 +1,6 @@
 -- The ranges of the values after an operation, from those before it. A bound is a fraction, or not there.
-use Rattle.std.specs.Prelude.{ℕ, ◌-◌, ◌*◌, ◌^◌, Bool, true, false, not, ◌&&◌, ◌||◌, if◌then◌else◌, nat_eq, nat_lt, List, [], ◌∷◌, sum, slice_index, slice_index_or, Option, Some, None, ℤ, pos, negsuc}
+use Rattle.std.specs.Prelude.{ℕ, ◌-◌, ◌*◌, ◌^◌, Bool, true, false, not, ◌&&◌, ◌||◌, if◌then◌else◌, nat_eq, nat_lt, List, [], ◌∷◌, sum}
+use Rattle.std.specs.Prelude.{slice_index, slice_index_or, Option, Some, None, ℤ, pos, negsuc}
 use Rattle.std.specs.Option.{option_map, option_and_then}
 use Rattle.std.specs.Int.{int_div_euclid}
 use Rattle.frac_math.specs.Fraction.{ℚ, nat, whole, over, floor, equal_ℚ, is_at_most, min_ℚ, max_ℚ}
@@ -8,7 +9,8 @@ use Rattle.op_list.specs.declared.types.PixType.{PixType}
 use Rattle.op_list.specs.declared.types.PixType.TheVariants.{U8, U16, U32, Rat}
 use Rattle.op_list.specs.declared.types.Stage.{Stage}
 use Rattle.op_list.specs.declared.op.Op.{Op}
-use Rattle.op_list.specs.declared.op.Op.TheVariants.{Read, Write, SwapBytes, Unpack, Pack, Clear, LeftShift, RightShift, Swizzle, Convert, Dither, Linear, Scale, Min, Max}
+use Rattle.op_list.specs.declared.op.Op.TheVariants.{Read, Write, SwapBytes, Unpack, Pack, Clear, LeftShift, RightShift, Swizzle}
+use Rattle.op_list.specs.declared.op.Op.TheVariants.{Convert, Dither, Linear, Scale, Min, Max}
 use Rattle.op_list.specs.Types.{bits, bits_at, is_rational}
 use Rattle.op_list.specs.Values.{four, fraction_in, entry}
 use Rattle.op_list.specs.Apply.{row_of}
@@ -144,7 +146,8 @@ row_range row ranges =
     range (row_sum row (λ j. least_product (fraction_in row j) (range_in ranges j)))
     (row_sum row (λ j. greatest_product (fraction_in row j) (range_in ranges j)))
     (keeps_whole (fraction_in row 0) (range_in ranges 0) && keeps_whole (fraction_in row 1) (range_in ranges 1)
-    && keeps_whole (fraction_in row 2) (range_in ranges 2) && keeps_whole (fraction_in row 3) (range_in ranges 3) && is_whole_number (fraction_in row 4))
+    && keeps_whole (fraction_in row 2) (range_in ranges 2) && keeps_whole (fraction_in row 3) (range_in ranges 3)
+    && is_whole_number (fraction_in row 4))
 
 -- the dither lies from 1/(2 * 4^k) to 1 - 1/(2 * 4^k)
 abbrev pub dithered_range : ℕ → ValueRange → ValueRange
@@ -177,7 +180,8 @@ range_at_least limit r = range (limited_or_limit max_ℚ limit r.least) (limited
 
 -- ---- an operation
 unfoldable pub ranges_after : Stage → Op → List ValueRange → List ValueRange
-ranges_after stage (Read elem planes palette) ranges = four (λ i. if palette || nat_lt i (sum planes) then full (bits elem) else only_zero)
+ranges_after stage (Read elem planes palette) ranges = four
+    (λ i. if palette || nat_lt i (sum planes) then full (bits elem) else only_zero)
 ranges_after stage (Write elem planes) ranges = four (λ i. range (range_in ranges i).least (range_in ranges i).greatest true)
 ranges_after stage SwapBytes ranges = four (λ i. swapped_range (bits_at stage) (range_in ranges i))
 ranges_after stage (Unpack widths) ranges = four (λ i. full (slice_index widths i))

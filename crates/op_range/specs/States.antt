@@ -1,8 +1,8 @@
 -- The answer for a list: for each operation, the range of each value after it, and whether what follows uses the value.
-use Rattle.std.specs.Prelude.{◌≡◌, ◌<◌, ℕ, Bool, false, List, [], ◌∷◌, slice_index_or, All, map, None}
+use Rattle.std.specs.Prelude.{◌≡◌, ◌<◌, ℕ, Bool, List, [], ◌∷◌, All, map}
 use Rattle.op_list.specs.declared.types.Stage.{Stage}
 use Rattle.op_list.specs.declared.types.Stage.TheVariants.{Start}
-use Rattle.op_list.specs.declared.place.Place.{Place}
+use Rattle.op_list.specs.declared.position.PixelPosition.{PixelPosition}
 use Rattle.op_list.specs.declared.op.Op.{Op}
 use Rattle.op_list.specs.declared.values.Values.{Values}
 use Rattle.op_list.specs.Typing.{stage_after}
@@ -25,7 +25,8 @@ state_of ranges used = record { comps = four (λ i. comp_range (range_in ranges 
 -- the states after each of some operations
 unfoldable pub states_from : Stage → List Op → List ValueRange → List StateRange
 states_from stage [] ranges = []
-states_from stage (op ∷ ops) ranges = let after = ranges_after stage op ranges in state_of after (used_from ops) ∷ states_from (stage_after stage op) ops after
+states_from stage (op ∷ ops) ranges = let after = ranges_after stage op ranges in state_of after (used_from ops)
+    ∷ states_from (stage_after stage op) ops after
 
 abbrev pub states_of : List Op → List StateRange
 states_of ops = states_from Start ops start_ranges
@@ -41,21 +42,23 @@ abbrev pub used_of : StateRange → List Bool
 used_of state = map (λ comp. comp.used) state.comps
 
 -- any values that agree with these in the used ones give the same elements; after a Write these are given already
-abbrev pub OthersAreFree : List ℕ → Place → Stage → List Op → List Bool → Values → Type 0
-OthersAreFree frame place stage [] used values = Unit {0}
-OthersAreFree frame place stage (op ∷ ops) used values =
-    (other : Values) → Agree used values other → run_from frame place stage (op ∷ ops) other ≡ run_from frame place stage (op ∷ ops) values
+abbrev pub OthersAreFree : List ℕ → PixelPosition → Stage → List Op → List Bool → Values → Type 0
+OthersAreFree frame position stage [] used values = Unit {0}
+OthersAreFree frame position stage (op ∷ ops) used values =
+    (other : Values) → Agree used values other → run_from frame position stage (op ∷ ops) other
+    ≡ run_from frame position stage (op ∷ ops) values
 
 -- along some operations each state holds the values after its operation, and what it does not call used is free
-abbrev pub EnclosesRun : List ℕ → Place → Stage → List Op → Values → List StateRange → Type 0
-EnclosesRun frame place stage [] values states = states ≡ []
-EnclosesRun frame place stage (op ∷ ops) values [] = ⊥
-EnclosesRun frame place stage (op ∷ ops) values (state ∷ states) =
-    let after = apply frame place stage op values in
+abbrev pub EnclosesRun : List ℕ → PixelPosition → Stage → List Op → Values → List StateRange → Type 0
+EnclosesRun frame position stage [] values states = states ≡ []
+EnclosesRun frame position stage (op ∷ ops) values [] = ⊥
+EnclosesRun frame position stage (op ∷ ops) values (state ∷ states) =
+    let after = apply frame position stage op values in
     let next = stage_after stage op in
-    FirstAreWithin (value_count op) (ranges_of state) after × OthersAreFree frame place next ops (used_of state) after
-    × EnclosesRun frame place next ops after states
+    FirstAreWithin (value_count op) (ranges_of state) after × OthersAreFree frame position next ops (used_of state) after
+    × EnclosesRun frame position next ops after states
 
 -- the states enclose the list at every pixel of every frame of bytes
 abbrev pub Encloses : List StateRange → List Op → Type 0
-Encloses states ops = (frame : List ℕ) (place : Place) → All (λ byte. byte < 256) frame → EnclosesRun frame place Start ops no_values states
+Encloses states ops = (frame : List ℕ) (position : PixelPosition) → All (λ byte. byte < 256) frame
+    → EnclosesRun frame position Start ops no_values states

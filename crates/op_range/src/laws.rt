@@ -1,8 +1,10 @@
 //! The laws of the definitions, each the contract of a function.
 ghost use Rattle.op_range.specs.FractionBoundLaws.{BoundsAreEnough};
+ghost use Rattle.op_range.specs.Examples.{WordsToBytes};
 ghost use Rattle.op_range.specs.Laws.{UnusedIsFree, RangesEnclose, NumbersStaySmall, StatesEnclose};
 
-/// Where the fractions have bounds, and the operations' bounds after these are there, the checked operations have the exact answers, within them.
+/// Where the fractions have bounds, and the operations' bounds after these are there, the checked
+/// operations have the exact answers, within them.
 pub fn bounds_are_enough()
     ensures { BoundsAreEnough }
 {}
@@ -25,4 +27,9 @@ pub fn numbers_stay_small()
 /// The states of a whole list enclose it at every pixel of every frame.
 pub fn states_enclose()
     ensures { StatesEnclose }
+{}
+
+/// The width of a list that is known from outside.
+pub fn words_to_bytes_are_narrow()
+    ensures { WordsToBytes }
 {}

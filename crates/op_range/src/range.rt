@@ -1,6 +1,7 @@
 use frac_math::Frac;
 
-/// What is known of a value at every pixel: the bounds between which it lies, where they are there, and whether it is a
+/// What is known of a value at every pixel: the bounds between which it lies, where they are there,
+/// and whether it is a
 /// whole number.
 #[derive(Clone, Copy, Debug, PartialEq, Eq)]
 pub struct ValueRange {
@@ -11,3 +12,6 @@ pub struct ValueRange {
     /// Where it is true, the value is a whole number.
     pub whole: bool,
 }
+
+/// What is known of the four values.
+pub type Ranges = [ValueRange; 4];
