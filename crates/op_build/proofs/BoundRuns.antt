@@ -1,6 +1,6 @@
 -- The checked run of the whole list of a pair whose sides are of the classes is there, and is the exact one.
 use Rattle.std.proofs.Common.{◌≡◌, ℕ, ◌-◌, ◌^◌, ◌<◌, ◌≤◌, Bool, true, false, if◌then◌else◌, List, [], ◌∷◌, ◌++◌, refl, append_assoc, sym}
-use Rattle.std.proofs.Common.{◌∙◌, ap, subst}
+use Rattle.std.proofs.Common.{subst}
 use Rattle.std.specs.Prelude.{Option, Some}
 use Rattle.std.specs.List.{list_all}
 use Rattle.pix_desc.specs.declared.desc.Desc.{Desc}
@@ -11,18 +11,14 @@ use Rattle.pix_meaning.specs.declared.pair.Pair.{Pair}
 use Rattle.op_list.specs.declared.types.PixType.{PixType}
 use Rattle.op_list.specs.declared.types.PixType.TheVariants.{U8}
 use Rattle.op_list.specs.Types.{bits}
-use Rattle.op_list.specs.declared.types.Stage.{Stage}
 use Rattle.op_list.specs.declared.types.Stage.TheVariants.{Start}
 use Rattle.op_list.specs.declared.position.PixelPosition.{PixelPosition}
 use Rattle.op_list.specs.declared.op.Op.{Op}
 use Rattle.op_list.specs.declared.op.Op.TheVariants.{Read, Write, SwapBytes, Unpack, Pack, Clear, LeftShift, RightShift, Swizzle, Convert}
-use Rattle.op_list.specs.declared.op.Op.TheVariants.{Dither, Linear, Scale}
 use Rattle.op_list.specs.declared.values.Values.{Values}
 use Rattle.op_list.specs.declared.values.Values.TheVariants.{Numbers}
 use Rattle.op_list.specs.Values.{four, no_values}
-use Rattle.op_list.specs.Typing.{stage_after, stage_from}
-use Rattle.op_list.specs.Apply.{apply}
-use Rattle.op_list.specs.Checked.{checked_apply}
+use Rattle.op_list.specs.Typing.{stage_from}
 use Rattle.op_list.specs.Run.{run_from, checked_run_from}
 use Rattle.op_list.proofs.Runs.{forms_nothing, unformed_run, checked_both}
 use Rattle.pix_desc.specs.Shape.{element_counts, field_widths}

@@ -1,10 +1,8 @@
 -- The bits of numbers of several bytes: little-endian ones, and those with their bytes in the other order.
 use Rattle.std.proofs.Common.{◌≡◌, ℕ, zero, suc, ◌+◌, ◌-◌, ◌*◌, ◌/◌, ◌%◌, ◌^◌, ◌<◌, ◌≤◌, ⊎_elim, Bool, true, false, if◌then◌else◌, List}
-use Rattle.std.proofs.Common.{get_or, sym, refl, ap, ◌∙◌, arith}
+use Rattle.std.proofs.Common.{get_or, sym, ap, ◌∙◌, arith}
 use Rattle.std.specs.Int.{bit_at}
-use Rattle.std.proofs.Math.Nat.{pow-suc}
 use Rattle.std.proofs.lemmas.Bool.{cases_lt}
-use Rattle.std.proofs.lemmas.Nat.{pow-add, mul-add-lt}
 use Rattle.std.proofs.lemmas.Nat.Bits.{bit_at_cat_low, bit_at_cat_high}
 use Rattle.pix_desc.specs.Component.{bit_of}
 use Rattle.pix_desc.proofs.Bits.{bit_at_low_byte, bit_at_high_byte, bit_at_mod_byte, bit_at_div_byte}

@@ -1,5 +1,5 @@
 -- The codes of the channels, put in order from the slots of a pixel.
-use Rattle.std.proofs.Common.{◌≡◌, ℕ, ◌<◌, ⊎_elim, Bool, true, false, if◌then◌else◌, get_or, Some, None, ap, ◌∙◌}
+use Rattle.std.proofs.Common.{◌≡◌, ℕ, ◌<◌, ⊎_elim, true, false, if◌then◌else◌, get_or, Some, None, ap, ◌∙◌}
 use Rattle.std.proofs.lemmas.Bool.{cases_Bool}
 use Rattle.frac_math.specs.Fraction.{nat}
 use Rattle.pix_desc.specs.declared.desc.Desc.{Desc}

@@ -102,8 +102,13 @@ module _ (desc : Desc) (frame : List ℕ) (position : PixelPosition) (valid : Is
       let c = component_of desc 0 in
       let at = row_start desc position.width position.rows c.plane position.row + position.x * c.step + count_of (first_byte desc c) in
       let begins : at ≡ pixel_number position =
-      omega (arith, word_begins desc position.width position.rows 0 position.x position.row laid laid.some is.plane, ap
-      (λ s. (position.width * position.rows * 0 + pixel_number position * 1 + 0) * s) is.step, is.first) in
+      omega (
+        arith,
+        word_begins desc position.width position.rows 0 position.x position.row laid laid.some is.plane,
+        ap
+            (λ s. (position.width * position.rows * 0 + pixel_number position * 1 + 0) * s) is.step,
+        is.first,
+      ) in
       let number = λ (s : ℕ). number_at s frame at in
       sym (element_field desc position.width position.rows frame 0 position.x position.row laid all_bytes laid.some)
       ∙ ap (λ s. in_order desc.be s (number s) / 2 ^ c.shift % 2 ^ c.depth) is.read

@@ -14,7 +14,6 @@ use Rattle.op_list.specs.declared.op.Op.{Op}
 use Rattle.op_list.specs.declared.op.Op.TheVariants.{Read, SwapBytes, Unpack, Clear, LeftShift, RightShift, Swizzle}
 use Rattle.op_list.specs.declared.types.PixType.{PixType}
 use Rattle.op_list.specs.declared.types.PixType.TheVariants.{U8}
-use Rattle.op_list.specs.declared.types.Stage.{Stage}
 use Rattle.op_list.specs.declared.types.Stage.TheVariants.{Start, Typed}
 use Rattle.op_list.specs.Types.{bits, is_whole_type, is_wide, is_rational}
 use Rattle.op_list.specs.Typing.{may_follow, are_good, are_counts, are_typed, all_fit, entry_fits, stage_after}
@@ -52,8 +51,13 @@ channel_slots_fit desc valid none =
     (λ c below. lt-ltb _ 4 (⊎_elim
     (λ (there : has_channel desc c ≡ true).
     let listed = channel_listed desc c valid none below there in
-    omega (arith, cond-true (has_channel desc c) (position_of desc (component_at desc c)) c there, positions.within
-    (component_at desc c) listed, positions.few))
+    omega (
+      arith,
+      cond-true (has_channel desc c) (position_of desc (component_at desc c)) c there,
+      positions.within
+          (component_at desc c) listed,
+      positions.few,
+    ))
     (λ (missing : has_channel desc c ≡ false). omega
     (arith, cond-false (has_channel desc c) (position_of desc (component_at desc c)) c missing))
     (cases_Bool (has_channel desc c))))

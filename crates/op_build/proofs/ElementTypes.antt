@@ -1,5 +1,5 @@
 -- The type of a format's elements, and that their counts and the widths of fields are good arguments.
-use Rattle.std.proofs.Common.{◌≡◌, ℕ, ◌*◌, ◌/◌, ◌<◌, ◌≤◌, ◌⊎◌, ⊎_elim, inl, inr, true, false, not, ◌&&◌, if◌then◌else◌, nat_le, nat_eq}
+use Rattle.std.proofs.Common.{◌≡◌, ℕ, ◌*◌, ◌/◌, ◌<◌, ◌≤◌, ⊎_elim, true, false, not, ◌&&◌, if◌then◌else◌, nat_le, nat_eq}
 use Rattle.std.proofs.Common.{get_or, sym, refl, ap, ◌∙◌, arith}
 use Rattle.std.proofs.lemmas.Bool.{and_parts, not-true}
 use Rattle.pix_desc.specs.declared.desc.Desc.{Desc}

@@ -21,9 +21,11 @@ use Rattle.pix_desc.proofs.WordBits.{bit_in_order, number_bit_position, number_e
 
 -- quotient and rest are determined
 same_parts : (q r a b w : ℕ) → a < w → b < w → q * w + a ≡ r * w + b → (q ≡ r) × (a ≡ b)
-same_parts q r a b w p s e =
-    (sym (div-mul-add q w a p) ∙ ap (λ n. n / w) e ∙ div-mul-add r w b s, sym (mod-mul-add q w a p) ∙ ap (λ n. n % w) e
-    ∙ mod-mul-add r w b s)
+same_parts q r a b w p s e = (
+  sym (div-mul-add q w a p) ∙ ap (λ n. n / w) e ∙ div-mul-add r w b s,
+  sym (mod-mul-add q w a p) ∙ ap (λ n. n % w) e
+      ∙ mod-mul-add r w b s,
+)
 
 pub bit_in_order-below : (be : Bool) (size m : ℕ) → m < 8 * size → bit_in_order be size m < 8 * size
 bit_in_order-below true size m inside = omega arith
@@ -56,7 +58,7 @@ module _ (desc : Desc) (width rows x row : ℕ) (value : ℕ → ℕ → ℕ →
     bit_placed m inside =
         bit_at_in_order frame desc.be size start m (λ k. byte_below frame k says.bytes) inside
         ∙ ap (bit_of frame) (let e : 8 * start + bit_in_order desc.be size m
-            ≡ 8 * (row_start desc width rows p row + x * plane_step desc p) + position m = omega arith in e)
+        ≡ 8 * (row_start desc width rows p row + x * plane_step desc p) + position m = omega arith in e)
 
     bit_inside : (m : ℕ) → m < 8 * size → position m < 8 * plane_step desc p
     bit_inside m inside =
@@ -64,8 +66,12 @@ module _ (desc : Desc) (width rows x row : ℕ) (value : ℕ → ℕ → ℕ →
         let below : p < 4 = omega (arith, there.plane, length-counts desc) in
         let count : r < plane_step desc p / size = omega (arith, there.inside, count_at desc size p is.bytes below) in
         let byte : bit_in_order desc.be size m / 8 < size = omega arith in
-        omega (arith, mul-add-lt r size (bit_in_order desc.be size m / 8)
-        (plane_step desc p / size) count byte, whole_steps desc size laid is p)
+        omega (
+          arith,
+          mul-add-lt r size (bit_in_order desc.be size m / 8)
+              (plane_step desc p / size) count byte,
+          whole_steps desc size laid is p,
+        )
 
     -- where a component has its bits
     component_bits : (j b : ℕ) → j < desc.count → b < (component_of desc j).depth

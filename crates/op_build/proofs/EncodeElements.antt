@@ -183,7 +183,7 @@ module _ (desc : Desc) (position : PixelPosition) (value : ℕ → ℕ → ℕ �
         (row_start desc position.width position.rows p position.row + position.x * plane_step desc p + r * size) size 0
         (element_type_is desc is) small is.bytes within (element_starts desc size laid is position_again i p r found.2)
         (spare_number desc position.width position.rows position.x position.row value made laid made_says gives.column gives.row size is
-            first_sizes i p r found.2 spare)
+        first_sizes i p r found.2 spare)
 
     written_component : (i j : ℕ) → i < 4 → i < sum (element_counts desc) → get_or (slots desc) i None ≡ Some j
         → in_order (is_swapped desc) (bytes (element_type desc)) (at_place i)
@@ -215,7 +215,7 @@ module _ (desc : Desc) (position : PixelPosition) (value : ℕ → ℕ → ℕ �
         (row_start desc position.width position.rows p position.row + position.x * plane_step desc p + r * size) size (v * 2 ^ c.shift)
         typed small is.bytes within (element_starts desc size laid is position_again i p r there)
         (component_number desc position.width position.rows position.x position.row value made laid made_says gives.column gives.row size
-            is first_sizes i p r j there slot.0 slot.1 refl refl fits room)
+        is first_sizes i p r j there slot.0 slot.1 refl refl fits room)
 
     written_is : (i : ℕ) → i < 4
         → (if nat_lt i (sum (element_counts desc)) then in_order (is_swapped desc) (bytes (element_type desc)) (at_place i) else 0)

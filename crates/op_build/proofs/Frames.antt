@@ -14,7 +14,7 @@ use Rattle.pix_meaning.specs.declared.pair.Pair.{Pair}
 use Rattle.op_list.specs.declared.op.Op.{Op}
 use Rattle.op_list.specs.declared.op.Op.TheVariants.{Write, SwapBytes, Pack, Clear, LeftShift, Swizzle, Convert}
 use Rattle.op_list.specs.Run.{read_length}
-use Rattle.op_list.specs.Typing.{are_counts, are_in_front, is_write, ends_with_write}
+use Rattle.op_list.specs.Typing.{are_counts, are_in_front, ends_with_write}
 use Rattle.op_build.specs.Frames.{ReadsFrames, WritesFrames, FillsFrames}
 use Rattle.op_build.specs.Recipe.{decode, convert, encode, recipe, only_if, split, slot_channels, spare_zeros}
 use Rattle.pix_desc.specs.Shape.{element_bytes, element_counts, field_widths}

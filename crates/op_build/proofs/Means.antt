@@ -1,11 +1,10 @@
 -- The list of a valid pair means the target rows: decoding, conversion and encoding, one behind the other.
-use Rattle.std.proofs.Common.{◌≡◌, ◌<◌, ℕ, ◌+◌, false, List, ◌++◌, All, refl, ◌∙◌, ap}
+use Rattle.std.proofs.Common.{◌≡◌, ◌<◌, ℕ, ◌+◌, false, List, All, refl, ◌∙◌, ap}
 use Rattle.pix_desc.specs.Frame.{frame_of}
 use Rattle.pix_meaning.specs.declared.pair.Pair.{Pair}
 use Rattle.pix_meaning.specs.Pairs.{IsValidPair}
 use Rattle.pix_meaning.specs.Target.{result_of, target_rows}
 use Rattle.pix_meaning.proofs.TargetLaws.{results_fit}
-use Rattle.op_list.specs.declared.op.Op.{Op}
 use Rattle.op_list.specs.declared.position.PixelPosition.{PixelPosition}
 use Rattle.op_list.specs.declared.types.Stage.TheVariants.{Start}
 use Rattle.op_list.specs.declared.values.Values.TheVariants.{Numbers, Fractions}

@@ -1,9 +1,9 @@
 -- The recipe of a valid pair is a list of operations: each may follow those before it and has good arguments, and there are at most 20.
-use Rattle.std.proofs.Common.{◌≡◌, ℕ, ◌+◌, ◌-◌, ◌^◌, ◌<◌, ◌≤◌, ⊎_elim, Bool, true, false, not, ◌&&◌, if◌then◌else◌, List, [], ◌∷◌, ◌++◌}
-use Rattle.std.proofs.Common.{length, get_or, Option, Some, None, sym, refl, ap, subst, ◌∙◌, arith}
+use Rattle.std.proofs.Common.{◌≡◌, ℕ, ◌+◌, ◌^◌, ◌<◌, ◌≤◌, ⊎_elim, Bool, true, false, not, if◌then◌else◌, List, [], ◌∷◌, ◌++◌}
+use Rattle.std.proofs.Common.{length, get_or, Option, Some, None, sym, refl, subst, ◌∙◌, arith}
 use Rattle.std.specs.Prelude.{nat_lt}
 use Rattle.std.specs.List.{list_all}
-use Rattle.std.proofs.lemmas.Bool.{and_from, and_parts, or_right, cond_both, cond-true, cond-false, lt-ltb, le-leb, cases_lt}
+use Rattle.std.proofs.lemmas.Bool.{and_from, or_right, cond_both, cond-true, cond-false, lt-ltb, le-leb, cases_lt}
 use Rattle.std.proofs.lemmas.List.{get_or_past}
 use Rattle.std.proofs.lemmas.Nat.{pow_pos}
 use Rattle.frac_math.specs.Fraction.{ℚ, nat}
@@ -22,7 +22,7 @@ use Rattle.op_list.specs.declared.types.PixType.TheVariants.{U8, U16, U32, Rat}
 use Rattle.op_list.specs.declared.types.Stage.{Stage}
 use Rattle.op_list.specs.declared.types.Stage.TheVariants.{Start, Typed, Ended}
 use Rattle.op_list.specs.Types.{bits, is_whole_type, is_wide, is_rational, is_same}
-use Rattle.op_list.specs.Typing.{may_follow, are_good, are_counts, are_typed, all_fit, entry_fits, stage_after, stage_from, IsOpList}
+use Rattle.op_list.specs.Typing.{may_follow, are_good, are_counts, all_fit, entry_fits, stage_after, IsOpList}
 use Rattle.op_list.proofs.Typed.{IsTyped, no_operations, one_more, one_more_if, both_parts}
 use Rattle.pix_desc.specs.Shape.{element_counts, field_widths, slots}
 use Rattle.op_build.specs.ElementType.{element_type, is_swapped}

@@ -2,8 +2,6 @@
 use Rattle.std.specs.Prelude.{◌≡◌, ◌<◌, true, ℕ, if◌then◌else◌, List, All}
 use Rattle.pix_desc.specs.declared.desc.Desc.{Desc}
 use Rattle.pix_desc.specs.Layouts.{IsValid}
-use Rattle.pix_meaning.specs.Pairs.{has_channel, component_at}
-use Rattle.pix_meaning.specs.Values.{source_component}
 use Rattle.op_list.specs.declared.position.PixelPosition.{PixelPosition}
 use Rattle.op_list.specs.declared.types.PixType.{PixType}
 use Rattle.op_list.specs.declared.types.PixType.TheVariants.{U8}
