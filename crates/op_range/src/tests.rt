@@ -297,7 +297,8 @@ fn has_fault(alloc: Global, more: &[Op], want: Option<u8>) -> bool {
 fn widths_below_the_cap_fit(rt: HostRuntime) {
     let large = scale(1 << 120, 1);
     assert!(rt; has_fault(rt.alloc(), &[], None));
-    assert!(rt; has_fault(rt.alloc(), &words_to_bytes()[2..], None));
+    let [_, _, linear, dither, min, last, end] = words_to_bytes();
+    assert!(rt; has_fault(rt.alloc(), &[linear, dither, min, last, end], None));
     assert!(rt; has_fault(rt.alloc(), &[large], Some(0)));
     assert!(rt; has_fault(rt.alloc(), &[scale(1 << 118, 1)], None));
     assert!(rt; has_fault(rt.alloc(), &[scale(1 << 119, 1), scale(0, 1)], Some(0)));
