@@ -1,7 +1,8 @@
 ghost use Rattle.std.specs.Prelude.{◌≡◌};
 ghost use Rattle.frac_math.specs.Gcd.{gcd};
 
-/// The greatest common divisor, and that of a number and 0 the number. It goes in divisions of 64 bits from where the lesser number has no more.
+/// The greatest common divisor; that of a number and 0 is the number.
+// It goes in divisions of 64 bits from where the lesser number has no more.
 pub fn common_divisor(a: u128, b: u128) -> u128
     ensures { result ≡ gcd a b }
 {

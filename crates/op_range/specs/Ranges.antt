@@ -180,8 +180,8 @@ range_at_least limit r = range (limited_or_limit max_ℚ limit r.least) (limited
 
 -- ---- an operation
 unfoldable pub ranges_after : Stage → Op → List ValueRange → List ValueRange
-ranges_after stage (Read elem planes palette) ranges = four
-    (λ i. if palette || nat_lt i (sum planes) then full (bits elem) else only_zero)
+ranges_after stage (Read elem planes palette) ranges =
+    four (λ i. if palette || nat_lt i (sum planes) then full (bits elem) else only_zero)
 ranges_after stage (Write elem planes) ranges = four (λ i. range (range_in ranges i).least (range_in ranges i).greatest true)
 ranges_after stage SwapBytes ranges = four (λ i. swapped_range (bits_at stage) (range_in ranges i))
 ranges_after stage (Unpack widths) ranges = four (λ i. full (slice_index widths i))

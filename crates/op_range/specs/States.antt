@@ -25,8 +25,9 @@ state_of ranges used = record { comps = four (λ i. comp_range (range_in ranges 
 -- the states after each of some operations
 unfoldable pub states_from : Stage → List Op → List ValueRange → List StateRange
 states_from stage [] ranges = []
-states_from stage (op ∷ ops) ranges = let after = ranges_after stage op ranges in state_of after (used_from ops)
-    ∷ states_from (stage_after stage op) ops after
+states_from stage (op ∷ ops) ranges =
+    let after = ranges_after stage op ranges in
+    state_of after (used_from ops) ∷ states_from (stage_after stage op) ops after
 
 abbrev pub states_of : List Op → List StateRange
 states_of ops = states_from Start ops start_ranges
@@ -45,8 +46,8 @@ used_of state = map (λ comp. comp.used) state.comps
 abbrev pub OthersAreFree : List ℕ → PixelPosition → Stage → List Op → List Bool → Values → Type 0
 OthersAreFree frame position stage [] used values = Unit {0}
 OthersAreFree frame position stage (op ∷ ops) used values =
-    (other : Values) → Agree used values other → run_from frame position stage (op ∷ ops) other
-    ≡ run_from frame position stage (op ∷ ops) values
+    (other : Values) → Agree used values other
+    → run_from frame position stage (op ∷ ops) other ≡ run_from frame position stage (op ∷ ops) values
 
 -- along some operations each state holds the values after its operation, and what it does not call used is free
 abbrev pub EnclosesRun : List ℕ → PixelPosition → Stage → List Op → Values → List StateRange → Type 0

@@ -54,8 +54,8 @@ abbrev pub term_size : ℕ → List ℚ → Width → ℕ → ℕ
 term_size e row w j = size_over e (fraction_in row j) * size_in w j
 
 abbrev pub row_size : ℕ → List ℚ → Width → ℕ
-row_size e row w = term_size e row w 0 + term_size e row w 1 + term_size e row w 2 + term_size e row w 3 + size_over e
-    (fraction_in row 4) * w.denominator
+row_size e row w =
+    term_size e row w 0 + term_size e row w 1 + term_size e row w 2 + term_size e row w 3 + size_over e (fraction_in row 4) * w.denominator
 
 abbrev pub mapped_width : List (List ℚ) → Width → Width
 mapped_width rows w = let e = rows_denominator rows in width_of (w.denominator * e) (λ i. row_size e (row_of rows i) w)
@@ -77,12 +77,12 @@ limited_size e d None size = size * e
 limited_size e d (Some x) size = max (size * e) (size_over e x * d)
 
 abbrev pub cleared_width : List (Option ℚ) → Width → Width
-cleared_width entries w = let e = entries_denominator entries in width_of (w.denominator * e)
-    (λ i. cleared_size e w.denominator (entry entries i) (size_in w i))
+cleared_width entries w =
+    let e = entries_denominator entries in width_of (w.denominator * e) (λ i. cleared_size e w.denominator (entry entries i) (size_in w i))
 
 abbrev pub limited_width : List (Option ℚ) → Width → Width
-limited_width limits w = let e = entries_denominator limits in width_of (w.denominator * e)
-    (λ i. limited_size e w.denominator (entry limits i) (size_in w i))
+limited_width limits w =
+    let e = entries_denominator limits in width_of (w.denominator * e) (λ i. limited_size e w.denominator (entry limits i) (size_in w i))
 
 -- after an operation on fractions
 unfoldable pub fractions_width : Op → Width → Width

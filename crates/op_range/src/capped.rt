@@ -5,7 +5,7 @@ ghost use Rattle.op_range.specs.Capped.{capped, below_cap};
 
 use frac_math::common_divisor;
 
-/// Numbers from here on are not told apart.
+// Numbers from here on are not told apart.
 pub const CAP: u128 = 1 << 126;
 
 // The product, and the cap where it is no less.

@@ -139,7 +139,8 @@ fn least_terms(row: &[Frac; 5], ranges: &[ValueRange; 4]) -> [Option<Frac>; 4]
 }
 
 fn greatest_terms(row: &[Frac; 5], ranges: &[ValueRange; 4]) -> [Option<Frac>; 4]
-    ensures { result ≡ four (λ j. greatest_product (fraction_in row.now j) (range_in ranges.now j)) }
+    ensures { result ≡ four
+        (λ j. greatest_product (fraction_in row.now j) (range_in ranges.now j)) }
 {
     [
         greatest_product(&row[0], &ranges[0]),

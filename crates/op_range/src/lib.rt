@@ -1,5 +1,8 @@
-//! What is known of a list of operations at every pixel: the ranges of its values, the values that
-//! matter to what is written, and the width of its numbers.
+//! What is known of a list of operations at every pixel.
+//!
+//! `ranges` tells the bounds of the values after each operation, and which of them may still change
+//! what is written; `fits` and `width_fault` tell how large the numbers are where the fractions are
+//! held over one denominator.
 #![tactic(auto)]
 
 mod capped;

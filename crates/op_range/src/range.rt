@@ -1,8 +1,7 @@
 use frac_math::Frac;
 
 /// What is known of a value at every pixel: the bounds between which it lies, where they are there,
-/// and whether it is a
-/// whole number.
+/// and whether it is a whole number.
 #[derive(Clone, Copy, Debug, PartialEq, Eq)]
 pub struct ValueRange {
     /// The value is not below it. None where it is not known.

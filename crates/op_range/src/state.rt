@@ -27,6 +27,7 @@ pub struct CompRange {
 /// What is known of the four values after an operation.
 #[derive(Clone, Copy, Debug, PartialEq, Eq)]
 pub struct StateRange {
+    /// Those of values 0 to 3.
     pub comps: [CompRange; 4],
 }
 
@@ -52,12 +53,11 @@ fn comps(ranges: &Ranges, used: &Used) -> [CompRange; 4]
     ]
 }
 
-/// What is known of the values after each operation of a whole list, in the order of its
-/// operations. The values of every pixel
-/// of every frame of bytes lie between the bounds that are there, are whole numbers where `whole`
-/// is true, and cannot change
-/// what Write is given where `used` is false; after the Write this is said of the first values, as
-/// many as are written.
+/// What is known of the values after each operation of a whole list, in the order of its operations.
+///
+/// The values of every pixel of every frame of bytes lie between the bounds that are there, are
+/// whole numbers where `whole` is true, and cannot change what Write is given where `used` is
+/// false. After the Write this is said of the first values, as many as are written.
 pub fn ranges(alloc: Global, list: &OpList) -> Result<Vec<StateRange>, OutOfMemory>
     requires whole { ends_with_write list.now ≡ true }
     ensures value { IfOk result (λ states. states.items ≡ states_of list.now) }

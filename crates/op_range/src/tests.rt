@@ -293,26 +293,39 @@ fn has_fault(alloc: Global, more: &[Op], want: Option<u8>) -> bool {
     width_fault(&list) == want && fits(&list) == want.is_none()
 }
 
+fn fits_whole(alloc: Global, ops: &[Op]) -> bool {
+    match list_of(alloc, ops) {
+        Ok(list) => fits(&list) && width_fault(&list).is_none(),
+        Err(_) => false,
+    }
+}
+
+fn large() -> Op {
+    scale(1 << 120, 1)
+}
+
+// All values but value 1 become 0.
+fn one_left() -> Op {
+    Op::Clear {
+        values: [whole(0), None, whole(0), whole(0)],
+    }
+}
+
 #[test]
 fn widths_below_the_cap_fit(rt: HostRuntime) {
-    let large = scale(1 << 120, 1);
+    assert!(rt; fits_whole(rt.alloc(), &words_to_bytes()));
     assert!(rt; has_fault(rt.alloc(), &[], None));
-    assert!(rt; has_fault(rt.alloc(), &words_to_bytes()[2..], None));
-    assert!(rt; has_fault(rt.alloc(), &[large], Some(0)));
+    assert!(rt; has_fault(rt.alloc(), &[large()], Some(0)));
     assert!(rt; has_fault(rt.alloc(), &[scale(1 << 118, 1)], None));
     assert!(rt; has_fault(rt.alloc(), &[scale(1 << 119, 1), scale(0, 1)], Some(0)));
     assert!(rt; has_fault(rt.alloc(), &[scale(1, 1 << 126)], Some(0)));
     assert!(rt; has_fault(rt.alloc(), &[scale(1, 1 << 125)], None));
-    let zero = whole(0);
-    let one_left = Op::Clear {
-        values: [zero, None, zero, zero],
-    };
-    assert!(rt; has_fault(rt.alloc(), &[one_left, large], Some(1)));
-    assert!(rt; has_fault(rt.alloc(), &[one_left, scale(0, 1), large], None));
+    assert!(rt; has_fault(rt.alloc(), &[one_left(), large()], Some(1)));
+    assert!(rt; has_fault(rt.alloc(), &[one_left(), scale(0, 1), large()], None));
     assert!(rt;
         has_fault(
             rt.alloc(),
-            &[large, scale(0, 1), scale(1 << 100, 1)],
+            &[large(), scale(0, 1), scale(1 << 100, 1)],
             Some(0)
         )
     );

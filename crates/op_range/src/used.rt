@@ -7,7 +7,7 @@ ghost use Rattle.op_range.specs.Used.{used_from};
 use frac_math::Frac;
 use op_list::{Op, total};
 
-/// Which values are used, one flag a value.
+/// Which values are used, that is, may change the elements that are written: a flag for each.
 pub type Used = [bool; 4];
 
 /// The values used before an operation, from those used after it.

@@ -60,6 +60,7 @@ fn converted(range: &ValueRange, to: PixType, expand: bool, rational: bool) -> V
     }
 }
 
+/// The ranges after an operation that may follow, with good arguments.
 #[tactic(auto, unfolding(crate::specs::Ranges::ranges_after))]
 pub fn ranges_after(op: &Op, stage: Stage, ranges: &Ranges) -> Ranges
     requires follows { may_follow stage op.now ≡ true }
@@ -89,7 +90,7 @@ pub fn ranges_after(op: &Op, stage: Stage, ranges: &Ranges) -> Ranges
     }
 }
 
-/// The ranges before a Read.
+/// The ranges before a Read: all values are 0.
 pub fn start_ranges() -> Ranges
     ensures { result ≡ start_ranges }
 {

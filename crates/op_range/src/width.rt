@@ -206,8 +206,8 @@ fn cleared(width: &Width, entries: &[Option<Frac>; 4]) -> Option<Width>
 
 fn cleared_sizes(e: u128, width: &Width, entries: &[Option<Frac>; 4]) -> [u128; 4]
     ensures { result ≡ four
-        (λ i. capped (cleared_size e width.now.denominator (entry entries.now i)
-        (size_in width.now i))) }
+        (λ i. capped
+        (cleared_size e width.now.denominator (entry entries.now i) (size_in width.now i))) }
 {
     let d = width.denominator;
     [
@@ -240,8 +240,8 @@ fn limited(width: &Width, limits: &[Option<Frac>; 4]) -> Option<Width>
 
 fn limited_sizes(e: u128, width: &Width, limits: &[Option<Frac>; 4]) -> [u128; 4]
     ensures { result ≡ four
-        (λ i. capped (limited_size e width.now.denominator (entry limits.now i)
-        (size_in width.now i))) }
+        (λ i. capped
+        (limited_size e width.now.denominator (entry limits.now i) (size_in width.now i))) }
 {
     let d = width.denominator;
     [
@@ -377,10 +377,10 @@ fn reached_by(rational: bool, sizes: &[u128; 4], behind: &[bool; 4]) -> [bool; 4
     ]
 }
 
-/// The lowest value whose own width reaches 2^126: where the list computes in fractions, the
-/// greatest of the common denominator
-/// and the value's numerator over it, after any operation. None where all are below. It takes no
-/// memory.
+/// The lowest value, from 0 to 3, whose own width reaches 2^126, and None where all are below.
+///
+/// The own width of a value is the greatest of the common denominator and its numerator over it,
+/// after any operation that leaves fractions. It takes no memory.
 pub fn width_fault(list: &OpList) -> Option<u8>
     ensures none { (result ≡ None) ↔ (width list.now < 2 ^ 126) }
     ensures lowest { IfSome result (λ i. IsLowestTooWide list.now i) }
