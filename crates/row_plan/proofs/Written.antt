@@ -9,7 +9,8 @@ use Rattle.pix_meaning.specs.declared.pair.Pair.{Pair}
 use Rattle.op_list.specs.declared.types.PixType.{PixType}
 use Rattle.op_list.specs.declared.op.Op.{Op}
 use Rattle.op_list.specs.declared.op.Op.TheVariants.{Write, SwapBytes, Pack, Clear, LeftShift, Swizzle, Convert}
-use Rattle.op_build.specs.Shape.{element_type, element_counts, field_widths, is_swapped}
+use Rattle.pix_desc.specs.Shape.{element_counts, field_widths}
+use Rattle.op_build.specs.ElementType.{element_type, is_swapped}
 use Rattle.op_build.specs.Recipe.{decode, convert, encode, recipe, only_if, to_places, spare_zeros}
 
 last_of : (ops : List Op) (op : Op) → slice_get (ops ++ op ∷ []) (length (ops ++ op ∷ []) - 1) ≡ Some op
