@@ -11,7 +11,7 @@ use Rattle.op_list.specs.declared.op.Op.{Op}
 use Rattle.op_list.specs.declared.op.Op.TheVariants.{Write, SwapBytes, Pack, Clear, LeftShift, Swizzle, Convert}
 use Rattle.pix_desc.specs.Shape.{element_counts, field_widths}
 use Rattle.op_build.specs.ElementType.{element_type, is_swapped}
-use Rattle.op_build.specs.Recipe.{decode, convert, encode, recipe, only_if, to_places, spare_zeros}
+use Rattle.op_build.specs.Recipe.{decode, convert, encode, recipe, only_if, slot_channels, spare_zeros}
 
 last_of : (ops : List Op) (op : Op) → slice_get (ops ++ op ∷ []) (length (ops ++ op ∷ []) - 1) ≡ Some op
 last_of [] op = refl
@@ -27,7 +27,7 @@ unfolding recipe encode
 recipe_writes pair =
     let desc = pair.to.desc in
     let write = Write (element_type desc) (element_counts desc) in
-    let front = Convert (element_type desc) false ∷ Swizzle (to_places desc) ∷ Clear (spare_zeros desc)
+    let front = Convert (element_type desc) false ∷ Swizzle (slot_channels desc) ∷ Clear (spare_zeros desc)
     ∷ (if is_elements desc then LeftShift (component_of desc 0).shift else Pack (field_widths desc)) ∷ only_if (is_swapped desc) SwapBytes in
     ap (λ ops. slice_get ops (length ops - 1)) (sym (append_assoc (decode pair.from.desc ++ convert pair) front (write ∷ [])))
     ∙ last_of (decode pair.from.desc ++ convert pair ++ front) write
