@@ -36,8 +36,8 @@ extent_of-limits : (text : List ℕ) → IfSome (extent_of text) IsExtent
 extent_of-limits text =
     let number = digits_value 10 text in
     some_if (is_numeral text && (nat_le 1 number && nat_le number 16384)) number IsExtent (λ passes.
-      let limits = second_so (is_numeral text) _ passes in
-      record { least = leb-true 1 number (first_so _ _ limits); most = leb-true number 16384 (second_so (nat_le 1 number) _ limits) })
+    let limits = second_so (is_numeral text) _ passes in
+    record { least = leb-true 1 number (first_so _ _ limits); most = leb-true number 16384 (second_so (nat_le 1 number) _ limits) })
 
 -- the size of a frame
 record IsFrameSize (size : ℕ × ℕ) : Type 0 where
@@ -50,7 +50,7 @@ sized-limits None height first second = tt
 sized-limits (Some width) None first second = tt
 sized-limits (Some width) (Some height) first second =
     ok_if (nat_le (width * height) 33554432) (width, height) BadSize IsFrameSize (λ passes.
-      record { width = first; height = second; area = leb-true (width * height) 33554432 passes })
+    record { width = first; height = second; area = leb-true (width * height) 33554432 passes })
 
 size_of-limits : (width height : Option (List ℕ)) → IfOk (size_of width height) IsFrameSize
 size_of-limits None height = tt
@@ -61,9 +61,9 @@ size_of-limits (Some width) (Some height) = sized-limits (extent_of width) (exte
 find-passes : {X : Type 0} (p q : X → Bool) (xs : List X) → list_all q xs ≡ true → IfSome (find p xs) (λ x. q x ≡ true)
 find-passes p q [] all = tt
 find-passes p q (x ∷ xs) all = elim (p x) as (λ b. IfSome (cond b (Some x) (find p xs)) (λ x'. q x' ≡ true)) [
-    true ↦ first_so _ _ all
+  | true ↦ first_so _ _ all
   | false ↦ find-passes p q xs (second_so (q x) _ all)
-  ]
+]
 
 -- each colour space can be written
 written : list_all (λ space. is_some (text_of_name space.name)) colour_spaces ≡ true
@@ -108,8 +108,8 @@ header_of-known_sound : (tags : List (List ℕ)) → IfOk (header_of tags) IsSou
 unfolding header_of
 header_of-known_sound tags =
     elim (list_all is_known_tag tags) as (λ b. IfOk (cond b (header_with (size_of (text_of (letter "W") tags) (text_of (letter "H") tags)) (colour_of (text_of (letter "C") tags)) tags) (Err BadTag)) IsSoundHeader) [
-      true ↦ header_with-sound _ _ tags (size_of-limits (text_of (letter "W") tags) (text_of (letter "H") tags)) (colour_of-stream (text_of (letter "C") tags))
-    | false ↦ tt
+      | true ↦ header_with-sound _ _ tags (size_of-limits (text_of (letter "W") tags) (text_of (letter "H") tags)) (colour_of-stream (text_of (letter "C") tags))
+      | false ↦ tt
     ]
 
 -- every header is sound
@@ -146,8 +146,8 @@ header_of-known_fault : (tags : List (List ℕ)) → IfErr (header_of tags) IsHe
 unfolding header_of
 header_of-known_fault tags =
     elim (list_all is_known_tag tags) as (λ b. IfErr (cond b (header_with (size_of (text_of (letter "W") tags) (text_of (letter "H") tags)) (colour_of (text_of (letter "C") tags)) tags) (Err BadTag)) IsHeaderFault) [
-      true ↦ header_with-fault _ _ tags (size_of-fault (text_of (letter "W") tags) (text_of (letter "H") tags)) (colour_fault (option_and_then format_of_text (text_of (letter "C") tags)))
-    | false ↦ tt
+      | true ↦ header_with-fault _ _ tags (size_of-fault (text_of (letter "W") tags) (text_of (letter "H") tags)) (colour_fault (option_and_then format_of_text (text_of (letter "C") tags)))
+      | false ↦ tt
     ]
 
 -- the tags of a header have the faults of a header alone

@@ -23,24 +23,24 @@ use Rattle.y4m_io.specs.LineKinds.{line_in, IsNoLine}
 pub header_cut-line : (bytes : List ℕ) → header_cut bytes ≡ header_in (line_in kind.Header bytes)
 unfolding header_cut
 header_cut-line bytes = elim (has_magic bytes) as (λ b. cond b (header_in (line_cut bytes)) (Err NoMagic) ≡ header_in (cond b (line_cut bytes) (Err NoMagic))) [
-    true ↦ refl
+  | true ↦ refl
   | false ↦ refl
-  ]
+]
 
 -- a frame line is its line
 pub frame_line_cut-line : (first : ℕ) (rest : List ℕ) → frame_line_cut (first ∷ rest) ≡ frame_line_in (line_in kind.Frame (first ∷ rest))
 unfolding frame_line_cut
 frame_line_cut-line first rest =
     elim (has_frame_word (first ∷ rest)) as (λ b. cond b (frame_line_in (line_cut (first ∷ rest))) (Err NoFrameLine) ≡ frame_line_in (cond b (line_cut (first ∷ rest)) (Err NoFrameLine))) [
-      true ↦ refl
-    | false ↦ refl
+      | true ↦ refl
+      | false ↦ refl
     ]
 
 -- the tags of a line that stands in a buffer
 pub tags_of-take : (buf : List ℕ) (size : ℕ) → 9 ≤ size → filter is_tag (slice_split is_space (take (size - 9) (drop 9 buf))) ≡ tags_of (take size buf)
 tags_of-take buf size long =
     let same : take (size - 9) (drop 9 buf) ≡ drop 9 (take size buf) =
-        sym (drop-take 9 (size - 9) buf) ∙ ap (λ n. drop 9 (take n buf)) {x = 9 + (size - 9)} {y = size} (omega arith) in
+    sym (drop-take 9 (size - 9) buf) ∙ ap (λ n. drop 9 (take n buf)) {x = 9 + (size - 9)} {y = size} (omega arith) in
     ap (λ text. filter is_tag (slice_split is_space text)) same
 
 -- ---- where the bytes left are told

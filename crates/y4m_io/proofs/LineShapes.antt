@@ -51,24 +51,24 @@ pub record IsLine (kind : LineKind) (bytes line : List ℕ) : Type 0 where
 
 line_cut-shape : (bytes line : List ℕ) → Shape bytes → line_cut bytes ≡ Ok line → (rest : List ℕ) × (bytes ≡ line ++ 10 ∷ rest) × (list_any is_newline line ≡ false) × (length line ≤ 1024)
 line_cut-shape bytes line (endless none) is = elim (cases_lt 1024 (length bytes)) [
-    inl long ↦ let no : ⊥ = cc (ap line_cut (append-nil bytes), line_cut-long bytes [] none long) in absurd no
+  | inl long ↦ let no : ⊥ = cc (ap line_cut (append-nil bytes), line_cut-long bytes [] none long) in absurd no
   | inr short ↦ let no : ⊥ = cc (line_cut-short bytes none short) in absurd no
-  ]
+]
 line_cut-shape bytes line (ended front rest same closed) is = elim (cases_lt 1024 (length front)) [
-    inl long ↦ let no : ⊥ = cc (ap line_cut same, line_cut-long front (10 ∷ rest) closed long) in absurd no
+  | inl long ↦ let no : ⊥ = cc (ap line_cut same, line_cut-long front (10 ∷ rest) closed long) in absurd no
   | inr short ↦ let all : front ≡ line = cc (ap line_cut same, line_cut-whole front rest closed short) in rw (← all) (rest, same, closed, short)
-  ]
+]
 
 pub line_in-shape : (kind : LineKind) (bytes line : List ℕ) → line_in kind bytes ≡ Ok line → IsLine kind bytes line
 line_in-shape kind bytes line is = elim (cases_Bool (has_word kind bytes)) [
-    inl word ↦
+  | inl word ↦
       let cut : line_cut bytes ≡ Ok line = sym (ap (λ b. cond b (line_cut bytes) (Err (wrong_word kind))) word) ∙ is in
       let shape = line_cut-shape bytes line (shape_of bytes) cut in
       let front : is_front kind (line ++ 10 ∷ []) ≡ true =
-          is_front-front kind (line ++ 10 ∷ []) shape.0 (ap (is_front kind) (append_assoc line (10 ∷ []) shape.0 ∙ sym shape.1) ∙ is_front-word kind bytes word) in
+      is_front-front kind (line ++ 10 ∷ []) shape.0 (ap (is_front kind) (append_assoc line (10 ∷ []) shape.0 ∙ sym shape.1) ∙ is_front-word kind bytes word) in
       record { rest = shape.0; is = shape.1; closed = shape.2; short = shape.3; front = front }
   | inr none ↦ let no : ⊥ = cc (ap (λ b. cond b (line_cut bytes) (Err (wrong_word kind))) none) in absurd no
-  ]
+]
 
 -- the bytes of a line and its newline
 pub take-line : (kind : LineKind) (bytes line : List ℕ) → IsLine kind bytes line → take (length line + 1) bytes ≡ line ++ 10 ∷ []
@@ -95,7 +95,7 @@ line_in-inside kind bytes line n is below =
     let whole : take n line ++ drop n line ≡ line = take-append-drop n line in
     let open_front : list_any is_newline (take n line) ≡ false = or_first _ _ (sym (list_any-append is_newline (take n line) (drop n line)) ∙ ap (list_any is_newline) whole ∙ shape.closed) in
     let more : is_front kind (take n line) ≡ true = is_front-front kind (take n line) (drop n line ++ 10 ∷ [])
-        (ap (is_front kind) (sym (append_assoc (take n line) (drop n line) (10 ∷ [])) ∙ ap (λ l. l ++ 10 ∷ []) whole) ∙ shape.front) in
+    (ap (is_front kind) (sym (append_assoc (take n line) (drop n line) (10 ∷ [])) ∙ ap (λ l. l ++ 10 ∷ []) whole) ∙ shape.front) in
     ap (line_in kind) front ∙ line_in-short kind (take n line) open_front (omega (arith, shape.short)) more ∙ ap (λ m. Err (cut_off kind m)) long
 
 -- bytes without a newline are no whole line
@@ -103,7 +103,7 @@ pub line_in-unfinished : (kind : LineKind) (front rest line : List ℕ) → list
 line_in-unfinished kind front rest line closed is =
     let shape = line_in-shape kind (front ++ rest) line is in
     let same : front ++ line_of rest ≡ line =
-        sym (line_of-append front rest closed) ∙ ap line_of shape.is ∙ line_of-append line (10 ∷ shape.rest) shape.closed ∙ append-nil line in
+    sym (line_of-append front rest closed) ∙ ap line_of shape.is ∙ line_of-append line (10 ∷ shape.rest) shape.closed ∙ append-nil line in
     omega (arith, ap length same, length-append front (line_of rest))
 
 -- ---- headers

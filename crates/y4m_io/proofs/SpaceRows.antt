@@ -6,9 +6,9 @@ use Rattle.std.specs.Option.{option_map}
 find-map : {A B : Type 0} (f : A → B) (test : B → Bool) (xs : List A) → option_map f (find (λ x. test (f x)) xs) ≡ find test (map f xs)
 find-map f test [] = refl
 find-map f test (x ∷ xs) = elim (test (f x)) as (λ b. option_map f (cond b (Some x) (find (λ x. test (f x)) xs)) ≡ cond b (Some (f x)) (find test (map f xs))) [
-    true ↦ refl
+  | true ↦ refl
   | false ↦ find-map f test xs
-  ]
+]
 
 option_map-map : {A B C : Type 0} (v : A → B) (f : B → C) (o : Option A) → option_map (λ x. f (v x)) o ≡ option_map f (option_map v o)
 option_map-map v f None = refl

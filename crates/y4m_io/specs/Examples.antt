@@ -26,9 +26,9 @@ plain width height name = record { width = width; height = height; format = form
 pub record WorkedLines : Type 0 where
   pub whole : header_cut (line "YUV4MPEG2 W2 H1 F25:1 Ip A1:1 C444 XYSCSS=444 XCOLORRANGE=LIMITED" ++ codes "FRAME")
       ≡ Ok (record {
-          header = record { width = 2; height = 1; format = format "yuv444p"; range = Some Limited; rate = Some (codes "25:1"); interlace = Some (codes "p"); aspect = Some (codes "1:1") };
-          size = 66;
-        })
+        header = record { width = 2; height = 1; format = format "yuv444p"; range = Some Limited; rate = Some (codes "25:1"); interlace = Some (codes "p"); aspect = Some (codes "1:1") };
+        size = 66;
+      })
   pub deep : header_cut (line "YUV4MPEG2 W1920 H1080 C444p10") ≡ Ok (record { header = plain 1920 1080 "yuv444p10le"; size = 30 })
   pub last_of_repeated : header_cut (line "YUV4MPEG2 W0 Cfoo W00016384 H1  H2048 Cmono12 XCOLORRANGE=LIMITED XCOLORRANGE=FULL")
       ≡ Ok (record { header = record (plain 16384 2048 "gray12le") { range = Some Full }; size = 83 })

@@ -80,7 +80,11 @@ pub fn header_text(alloc: Global, header: &Header) -> Result<Vec<u8>, OutOfMemor
     let mut width = Buffer::new();
     let mut height = Buffer::new();
     let mut text = Vec::with_capacity(alloc, size)?;
-    append(&mut text, b"YUV4MPEG2 W", width.format(header.width).as_bytes())?;
+    append(
+        &mut text,
+        b"YUV4MPEG2 W",
+        width.format(header.width).as_bytes(),
+    )?;
     append(&mut text, b" H", height.format(header.height).as_bytes())?;
     append(&mut text, b" F", rate)?;
     append(&mut text, b" I", interlace)?;

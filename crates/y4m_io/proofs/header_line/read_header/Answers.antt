@@ -25,7 +25,7 @@ returns-in-Ok-Some-clause-header g c =
     let long : length line ≡ c.in-Ok-Some.size = length-take-le c.in-Ok-Some.size c.read_line.new.line (omega arith) in
     let tags = tags_of-take c.read_line.new.line c.in-Ok-Some.size told.0 in
     header_answer c.header_of.result _ _ c.header_of.ensures.header (λ header says.
-      header_told (g.In.Source.shown c.args.input.now).bytes (g.In.Source.shown c.read_line.new.input).bytes line c.in-Ok-Some.size header told.2 long (ap header_of (sym tags) ∙ says))
+    header_told (g.In.Source.shown c.args.input.now).bytes (g.In.Source.shown c.read_line.new.input).bytes line c.in-Ok-Some.size header told.2 long (ap header_of (sym tags) ∙ says))
 
 pub returns-in-Ok-Some-clause-fault : goal.returns-in-Ok-Some-clause-fault
 returns-in-Ok-Some-clause-fault g c =
@@ -33,4 +33,4 @@ returns-in-Ok-Some-clause-fault g c =
     let line = take c.in-Ok-Some.size c.read_line.new.line in
     let tags = tags_of-take c.read_line.new.line c.in-Ok-Some.size told.0 in
     fault_answer c.header_of.result _ _ c.header_of.ensures.fault (λ fault says.
-      header_fault_told (g.In.Source.shown c.args.input.now).bytes (g.In.Source.shown c.read_line.new.input).bytes line c.in-Ok-Some.size fault told.2 (ap header_of (sym tags) ∙ says))
+    header_fault_told (g.In.Source.shown c.args.input.now).bytes (g.In.Source.shown c.read_line.new.input).bytes line c.in-Ok-Some.size fault told.2 (ap header_of (sym tags) ∙ says))
