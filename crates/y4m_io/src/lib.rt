@@ -1,7 +1,7 @@
 //! The header line and the frame lines of a YUV4MPEG2 stream, read and written.
 //!
-//! The grammar is in `specs/`, to be read in the order of `Lines`, `Tags`, `StreamFormats`, `HeaderLine`, `FrameLine` and
-//! `HeaderText`; `specs/Examples` has lines byte by byte.
+//! The grammar is in `specs/`, to be read in the order of `Lines`, `Tags`, `StreamFormats`,
+//! `HeaderLine`, `FrameLine` and `HeaderText`; `specs/Examples` has lines byte by byte.
 #![tactic(auto)]
 
 mod fault;

@@ -64,8 +64,8 @@ fn append(text: &mut Vec<u8>, name: &[u8], value: &[u8]) -> Result<(), OutOfMemo
     Ok(())
 }
 
-/// The line of a header, with its newline. A text that is not there is written as 25:1, p or 0:0, and a range that is not
-/// there as the format's default. Its memory is taken at once.
+/// The line of a header, with its newline. A text that is not there is written as 25:1, p or 0:0,
+/// and a range that is not there as the format's default. Its memory is taken at once.
 pub fn header_text(alloc: Global, header: &Header) -> Result<Vec<u8>, OutOfMemory>
     requires { is_stream_format header.now.format ≡ true }
     ensures { IfOk result (λ text. text.items ≡ header_text header.now) }
