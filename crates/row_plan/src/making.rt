@@ -7,7 +7,8 @@ use op_build::{BuildFault, build};
 use pix_meaning::Pair;
 use std::alloc::Global;
 
-/// The plan of a pair. PaletteTarget comes exactly where the target is a palette format, and OutOfMemory where an allocation
+/// The plan of a pair. PaletteTarget comes exactly where the target is a palette format, and
+/// OutOfMemory where an allocation
 /// is refused.
 pub fn plan(alloc: Global, pair: &Pair) -> Result<Plan, BuildFault>
     requires { IsPlannable pair.now }
