@@ -61,20 +61,19 @@ joined desc width slices = joined_planes desc width slices 4 ++ behind_first des
 abbrev pub targets_of : Pair → ℕ → ℕ → List RowSlice → List RowSlice
 targets_of pair width first [] = []
 targets_of pair width first (slice ∷ slices) =
-    record { rows = slice.rows; bytes = target_rows pair width slice.rows first slice.bytes } ∷ targets_of pair width
-    (first + slice.rows) slices
+    record { rows = slice.rows; bytes = target_rows pair width slice.rows first slice.bytes }
+    ∷ targets_of pair width (first + slice.rows) slices
 
 -- a slice has the length of a raw frame of as many rows
 abbrev pub SlicesAreFrames : Type 0
-SlicesAreFrames =
-    (desc : Desc) (width height first rows : ℕ) (frame : List ℕ) → length frame ≡ frame_length desc width height → first + rows ≤ height
+SlicesAreFrames = (desc : Desc) (width height first rows : ℕ) (frame : List ℕ)
+    → length frame ≡ frame_length desc width height → first + rows ≤ height
     → length (slice_of desc width height frame first rows) ≡ frame_length desc width rows
 
 -- all slices of a frame, put together, are the frame
 abbrev pub SlicesMakeFrame : Type 0
-SlicesMakeFrame =
-    (desc : Desc) (width height : ℕ)
-    (frame counts : List ℕ) → length frame ≡ frame_length desc width height → 0 < length counts → sum counts ≡ height
+SlicesMakeFrame = (desc : Desc) (width height : ℕ) (frame counts : List ℕ)
+    → length frame ≡ frame_length desc width height → 0 < length counts → sum counts ≡ height
     → joined desc width (slices_of desc width height frame 0 counts) ≡ frame
 
 -- the target rows of a slice are the slice of the target frame

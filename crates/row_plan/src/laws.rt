@@ -8,6 +8,8 @@ ghost use Rattle.row_plan.specs.Evaluated.{IsNamed, IsEvaluated, TablePairsHaveP
 ghost use Rattle.row_plan.specs.PackedRgb.{ArePackedFormats, CopiesPacked};
 ghost use Rattle.row_plan.specs.Slices.{SlicesAreFrames, SlicesMakeFrame, TargetOfSlice, TargetsMakeFrame, WorkedSlices};
 
+use crate::plans::Plan;
+
 /// Between any two formats of the table, with any of the five named matrices and both ranges on
 /// either side, and any dither, the numbers of every pixel's fractions fit 128 bits.
 pub fn every_pair_is_evaluated()
@@ -33,8 +35,7 @@ pub fn are_packed_formats()
 {}
 
 /// Between two RGB formats of one plane whose components are whole bytes the target frame has the
-/// source's components, each at
-/// its place, and opaque alpha where the source has none.
+/// source's components, each at its place, and opaque alpha where the source has none.
 pub fn copies_packed()
     ensures { (pair : Pair) (width height : ℕ) (frame : List ℕ)
         → CopiesPacked pair width height frame }
@@ -65,3 +66,11 @@ pub fn targets_make_frame()
 pub fn worked_slices()
     ensures { WorkedSlices }
 {}
+
+/// A `Plan` is `Send` and `Sync`: workers share one. A missing proof of it would else show only where
+/// the first threads are started.
+pub fn crosses_threads() {
+    crosses::<Plan>()
+}
+
+fn crosses<T: Send + Sync>() {}

@@ -100,8 +100,8 @@ impl Plan {
         requires before { IsConverted self.now.pair elements.now slice.now input.now output.old
             (row * slice.now.width) }
         ensures size { length output.new ≡ length output.old }
-        ensures after { IsConverted self.now.pair elements.now slice.now input.now output.new ((row
-            + 1) * slice.now.width) }
+        ensures after { IsConverted self.now.pair elements.now slice.now input.now output.new
+            ((row + 1) * slice.now.width) }
     {
         for x in 0..slice.width {
             self.convert_pixel(elements, slice, row, x, input, output);
@@ -124,10 +124,8 @@ impl Plan {
     }
 
     /// Converts the rows of a slice of `width` pixels by `rows`, whose first row is the row `first`
-    /// of the whole frame. Input
-    /// and output are raw frames of that width and as many rows, the input with the whole palette
-    /// where it has one. It
-    /// takes no memory.
+    /// of the whole frame, by which the dither goes. Input and output are raw frames of that width and
+    /// as many rows, the input with the whole palette where it has one. It takes no memory.
     pub fn convert_rows(&self, first: u32, width: u32, rows: u32, input: &[u8], output: &mut [u8])
         requires last { first + rows < 2 ^ 32 }
         requires input { length input.now ≡ frame_length self.now.pair.from.desc width rows }
