@@ -38,10 +38,12 @@ pub record IsPlanned (pair : Pair) (elem : PixType) (planes : List ℕ) : Type 0
 
 target_is_frame : (pair : Pair) (elem : PixType) (planes : List ℕ) (width rows first : ℕ) (input : List ℕ) → IsPlanned pair elem planes
     → IsFrameOf pair.to.desc width rows (result_of pair width rows first input) (target_rows pair width rows first input)
-target_is_frame pair elem planes width rows first input holds = (has_one_target_frame pair width rows first input holds.valid holds.plain).made
+target_is_frame pair elem planes width rows first input holds =
+    (has_one_target_frame pair width rows first input holds.valid holds.plain).made
 
 few_elements : (pair : Pair) (elem : PixType) (planes : List ℕ) → IsPlanned pair elem planes → sum planes ≤ 4
-few_elements pair elem planes holds = subst (λ counts. sum counts ≤ 4) (sym holds.planes_are) (fills_frames pair.to.desc holds.valid.to holds.plain).few
+few_elements pair elem planes holds =
+    subst (λ counts. sum counts ≤ 4) (sym holds.planes_are) (fills_frames pair.to.desc holds.valid.to holds.plain).few
 
 whole_elements : (pair : Pair) (elem : PixType) (planes : List ℕ) → IsPlanned pair elem planes → is_whole_type elem ≡ true
 whole_elements pair elem planes holds = ap is_whole_type holds.elem_is ∙ (fills_frames pair.to.desc holds.valid.to holds.plain).whole
@@ -51,7 +53,8 @@ filled : (pair : Pair) (elem : PixType) (planes : List ℕ) (width rows : ℕ) �
 filled pair elem planes width rows holds =
     (fills_frames pair.to.desc holds.valid.to holds.plain).size width rows ∙ rw (holds.planes_are, holds.elem_is) refl
 
-pub has_elements : (pair : Pair) (elem : PixType) (planes output : List ℕ) (place : PixelPosition) → IsPlanned pair elem planes → place.x < place.width → place.row < place.rows
+pub has_elements : (pair : Pair) (elem : PixType) (planes output : List ℕ) (place : PixelPosition) → IsPlanned pair elem planes
+    → place.x < place.width → place.row < place.rows
     → length output ≡ frame_length pair.to.desc place.width place.rows → HasElements elem planes output place
 has_elements pair elem planes output place holds column down size = record {
   column = column;
@@ -62,10 +65,12 @@ has_elements pair elem planes output place holds column down size = record {
 }
 
 -- the evaluation of a pixel gives its elements in the target rows
-pub evaluates : (pair : Pair) (elem : PixType) (planes input : List ℕ) (width rows first x row : ℕ) → IsPlanned pair elem planes → x < width → row < rows → All (λ byte. byte < 256) input
+pub evaluates : (pair : Pair) (elem : PixType) (planes input : List ℕ) (width rows first x row : ℕ) → IsPlanned pair elem planes → x < width
+    → row < rows → All (λ byte. byte < 256) input
     → length input ≡ frame_length pair.from.desc width rows
     → checked_run (recipe pair) input width rows x row (first + row)
-    ≡ Some (four (λ i. element_of elem planes (target_rows pair width rows first input) (record { width = width; rows = rows; x = x; row = row; y = first + row }) i))
+    ≡ Some (four (λ i. element_of elem planes (target_rows pair width rows first input)
+    (record { width = width; rows = rows; x = x; row = row; y = first + row }) i))
 unfolding element_of
 evaluates pair elem planes input width rows first x row holds column down small size =
     holds.evaluated input width rows x row (first + row) small
@@ -73,11 +78,15 @@ evaluates pair elem planes input width rows first x row holds column down small 
     ∙ rw (holds.elem_is, holds.planes_are) refl
 
 -- one pixel more is converted, where the numbers of its evaluation are stored
-pub converts : (pair : Pair) (elem : PixType) (planes input old new numbers : List ℕ) (width rows first x row : ℕ) → IsPlanned pair elem planes → x < width → row < rows
+pub converts : (pair : Pair) (elem : PixType) (planes input old new numbers : List ℕ) (width rows first x row : ℕ)
+    → IsPlanned pair elem planes → x < width → row < rows
     → All (λ byte. byte < 256) input → length input ≡ frame_length pair.from.desc width rows
     → Some numbers ≡ checked_run (recipe pair) input width rows x row (first + row)
-    → ((i : ℕ) → i < sum planes → element_of elem planes new (record { width = width; rows = rows; x = x; row = row; y = first + row }) i ≡ slice_index numbers i % 2 ^ bits elem)
-    → ((other : PixelPosition) → IsOtherPixel (record { width = width; rows = rows; x = x; row = row; y = first + row }) other → (i : ℕ) → element_of elem planes new other i ≡ element_of elem planes old other i)
+    → ((i : ℕ) → i < sum planes
+    → element_of elem planes new (record { width = width; rows = rows; x = x; row = row; y = first + row }) i
+    ≡ slice_index numbers i % 2 ^ bits elem)
+    → ((other : PixelPosition) → IsOtherPixel (record { width = width; rows = rows; x = x; row = row; y = first + row }) other → (i : ℕ)
+    → element_of elem planes new other i ≡ element_of elem planes old other i)
     → HaveSameElements elem planes width rows (row * width + x) old (target_rows pair width rows first input)
     → HaveSameElements elem planes width rows (row * width + x + 1) new (target_rows pair width rows first input)
 converts pair elem planes input old new numbers width rows first x row holds column down small size is stored others before =
@@ -92,7 +101,8 @@ converts pair elem planes input old new numbers width rows first x row holds col
     before
 
 -- a slice whose pixels are all converted is the target rows
-pub all_converted : (pair : Pair) (elem : PixType) (planes : List ℕ) (width rows first : ℕ) (input output : List ℕ) → IsPlanned pair elem planes → All (λ byte. byte < 256) output
+pub all_converted : (pair : Pair) (elem : PixType) (planes : List ℕ) (width rows first : ℕ) (input output : List ℕ)
+    → IsPlanned pair elem planes → All (λ byte. byte < 256) output
     → length output ≡ frame_length pair.to.desc width rows
     → HaveSameElements elem planes width rows (width * rows) output (target_rows pair width rows first input)
     → output ≡ target_rows pair width rows first input

@@ -9,7 +9,7 @@ use Rattle.pix_meaning.specs.declared.pair.Side.{Side}
 use Rattle.pix_meaning.specs.declared.pair.Pair.{Pair}
 use Rattle.pix_meaning.specs.Pairs.{IsValidPair}
 use Rattle.op_build.proofs.BoundFrames.{checked_is_there}
-use Rattle.row_plan.specs.Evaluated.{IsNamed, IsEvaluated, side_at, IsTableSide, IsPlannable, TablePairsHavePlans}
+use Rattle.row_plan.specs.Evaluated.{IsNamed, IsEvaluated, side_at, IsTableSide, TablePairsHavePlans}
 use Rattle.row_plan.proofs.NamedMatrices.{named_is_matrix}
 use Rattle.row_plan.proofs.TableClasses.{side_at_there}
 
@@ -34,7 +34,8 @@ evaluated from to dither from_matrix to_matrix from_range to_range from_below to
 
 -- a side of the table in terms of its row
 side_is : (side : Side) (is : IsTableSide side) → side_at is.id side.matrix side.range ≡ side
-side_is side is = ap (λ (desc : Desc). let with_desc : Side = record { desc = desc; matrix = side.matrix; range = side.range } in with_desc) (sym is.desc)
+side_is side is =
+    ap (λ (desc : Desc). let with_desc : Side = record { desc = desc; matrix = side.matrix; range = side.range } in with_desc) (sym is.desc)
 
 pub table_pairs_have_plans : TablePairsHavePlans
 table_pairs_have_plans pair from to small =
@@ -42,6 +43,10 @@ table_pairs_have_plans pair from to small =
     let is : at (side_at from.id pair.from.matrix pair.from.range) (side_at to.id pair.to.matrix pair.to.range) ≡ pair =
     ap (λ a. at a (side_at to.id pair.to.matrix pair.to.range)) (side_is pair.from from) ∙ ap (at pair.from) (side_is pair.to to) in
     record {
-      valid = subst IsValidPair is (valid_pair_at from.id to.id pair.dither pair.from.matrix pair.to.matrix pair.from.range pair.to.range from.known to.known from.matrix to.matrix small);
-      evaluated = λ _. subst IsEvaluated is (evaluated from.id to.id pair.dither pair.from.matrix pair.to.matrix pair.from.range pair.to.range from.known to.known from.matrix to.matrix small);
+      valid = subst IsValidPair is
+          (valid_pair_at from.id to.id pair.dither pair.from.matrix pair.to.matrix pair.from.range pair.to.range from.known to.known
+          from.matrix to.matrix small);
+      evaluated = λ _. subst IsEvaluated is
+          (evaluated from.id to.id pair.dither pair.from.matrix pair.to.matrix pair.from.range pair.to.range from.known to.known from.matrix
+          to.matrix small);
     }

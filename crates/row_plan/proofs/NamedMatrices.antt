@@ -9,7 +9,8 @@ use Rattle.op_build.specs.SideClasses.{named_matrices, IsOneOf}
 use Rattle.row_plan.specs.Evaluated.{IsNamed}
 
 -- what is true of the first answer, and of one of those behind it
-answered : (P : Matrix → Type 0) (test : Bool) (first matrix : Matrix) (others : Option Matrix) → P first → (others ≡ Some matrix → P matrix)
+answered : (P : Matrix → Type 0) (test : Bool) (first matrix : Matrix) (others : Option Matrix) → P first
+    → (others ≡ Some matrix → P matrix)
     → (if test then Some first else others) ≡ Some matrix → P matrix
 answered P true first matrix others holds behind same = subst P (same_Some first matrix same) holds
 answered P false first matrix others holds behind same = behind same
@@ -26,7 +27,8 @@ of_each_named P first second third fourth fifth matrix name =
 
 pub listed_matrix : (matrix : Matrix) → IsNamed matrix → IsOneOf matrix named_matrices
 listed_matrix matrix named =
-    of_each_named (λ m. IsOneOf m named_matrices) (inl refl) (inr (inl refl)) (inr (inr (inl refl))) (inr (inr (inr (inl refl)))) (inr (inr (inr (inr (inl refl)))))
+    of_each_named (λ m. IsOneOf m named_matrices) (inl refl) (inr (inl refl)) (inr (inr (inl refl))) (inr (inr (inr (inl refl))))
+    (inr (inr (inr (inr (inl refl)))))
     matrix named.name named.found
 
 -- the bounds of a matrix of three numbers

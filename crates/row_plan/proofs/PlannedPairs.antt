@@ -6,7 +6,8 @@ use Rattle.op_build.specs.ElementType.{element_type}
 use Rattle.row_plan.specs.declared.plans.Plan.{Plan}
 use Rattle.row_plan.proofs.ConvertedRows.{IsPlanned}
 
-pub planned : (plan : Plan) (elem : PixType) (planes : List ℕ) → elem ≡ element_type plan.pair.to.desc → planes ≡ element_counts plan.pair.to.desc
+pub planned : (plan : Plan) (elem : PixType) (planes : List ℕ) → elem ≡ element_type plan.pair.to.desc
+    → planes ≡ element_counts plan.pair.to.desc
     → IsPlanned plan.pair elem planes
 planned plan elem planes elem_is planes_are = record {
   valid = plan.valid;

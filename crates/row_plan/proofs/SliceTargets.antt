@@ -16,9 +16,11 @@ use Rattle.row_plan.proofs.SliceBytes.{component_of_slice, source_of_slice, bit_
 use Rattle.row_plan.proofs.SlicePlanes.{slices_are_frames, slices_make_frame}
 
 -- a pixel of a slice has the results of the whole frame
-same_result : (pair : Pair) (width height first rows : ℕ) (frame : List ℕ) (j x y : ℕ) → IsValidPair pair → length frame ≡ frame_length pair.from.desc width height
+same_result : (pair : Pair) (width height first rows : ℕ) (frame : List ℕ) (j x y : ℕ) → IsValidPair pair
+    → length frame ≡ frame_length pair.from.desc width height
     → first + rows ≤ height → x < width → y < rows
-    → result_of pair width rows first (slice_of pair.from.desc width height frame first rows) j x y ≡ result_of pair width height 0 frame j x (first + y)
+    → result_of pair width rows first (slice_of pair.from.desc width height frame first rows) j x y
+    ≡ result_of pair width height 0 frame j x (first + y)
 same_result pair width height first rows frame j x y valid size within column row =
     slices_agree pair width height first rows frame (slice_of pair.from.desc width height frame first rows) j x y valid
     (λ i listed. source_of_slice pair.from.desc width height first rows frame size within i x y valid.from listed column row)
@@ -40,7 +42,8 @@ slice_says pair width height first rows frame valid none size within =
           ∙ made.reads j x (first + y) listed column (omega arith)
           ∙ sym (same_result pair width height first rows frame j x y valid size within column row);
       spare = λ plane x y k column row inside unread.
-          bit_of_slice to width height first rows target made.size within plane x y k (plane_below to plane (laid_out to valid.to) (omega arith)) column row inside
+          bit_of_slice to width height first rows target made.size within plane x y k
+          (plane_below to plane (laid_out to valid.to) (omega arith)) column row inside
           ∙ made.spare plane x (first + y) k column (omega arith) inside unread;
     }
 
@@ -53,7 +56,8 @@ target_of_slice pair width height first rows frame valid none size within =
 
 same_targets : (pair : Pair) (width height first : ℕ) (frame counts : List ℕ) → IsValidPair pair → pair.to.desc.palette ≡ false
     → length frame ≡ frame_length pair.from.desc width height → first + sum counts ≤ height
-    → targets_of pair width first (slices_of pair.from.desc width height frame first counts) ≡ slices_of pair.to.desc width height (target_frame pair width height frame) first counts
+    → targets_of pair width first (slices_of pair.from.desc width height frame first counts)
+    ≡ slices_of pair.to.desc width height (target_frame pair width height frame) first counts
 same_targets pair width height first frame [] valid none size within = refl
 same_targets pair width height first frame (rows ∷ counts) valid none size within =
     let from = pair.from.desc in
@@ -67,4 +71,5 @@ same_targets pair width height first frame (rows ∷ counts) valid none size wit
 pub targets_make_frame : TargetsMakeFrame
 targets_make_frame pair width height frame counts valid none size some all =
     ap (joined pair.to.desc width) (same_targets pair width height 0 frame counts valid none size (omega arith))
-    ∙ slices_make_frame pair.to.desc width height (target_frame pair width height frame) counts (has_one_target_frame pair width height 0 frame valid none).made.size some all
+    ∙ slices_make_frame pair.to.desc width height (target_frame pair width height frame) counts
+    (has_one_target_frame pair width height 0 frame valid none).made.size some all

@@ -78,6 +78,8 @@ unfolding side_classes
 class_there true depths range matrix has named = in_first _ rgb_classes yuv_classes (rgb_there depths has)
 class_there false depths range matrix has named = in_second _ rgb_classes yuv_classes (yuv_there depths range matrix has named)
 
-pub side_at_there : (id : ℕ) (matrix : Matrix) (range : Range) → id < format_count → IsNamed matrix → IsOneOf (side_class (side_at id matrix range)) side_classes
+pub side_at_there : (id : ℕ) (matrix : Matrix) (range : Range) → id < format_count → IsNamed matrix
+    → IsOneOf (side_class (side_at id matrix range)) side_classes
 side_at_there id matrix range below named =
-    class_there (is_rgb (desc_of id)) (four (λ c. channel_depth (desc_of id) c)) range matrix (kind_at id below) (listed_matrix matrix named)
+    class_there (is_rgb (desc_of id)) (four (λ c. channel_depth (desc_of id) c)) range matrix (kind_at id below)
+    (listed_matrix matrix named)

@@ -28,7 +28,8 @@ recipe_writes pair =
     let desc = pair.to.desc in
     let write = Write (element_type desc) (element_counts desc) in
     let front = Convert (element_type desc) false ∷ Swizzle (slot_channels desc) ∷ Clear (spare_zeros desc)
-    ∷ (if is_elements desc then LeftShift (component_of desc 0).shift else Pack (field_widths desc)) ∷ only_if (is_swapped desc) SwapBytes in
+    ∷ (if is_elements desc then LeftShift (component_of desc 0).shift else Pack (field_widths desc)) ∷ only_if
+    (is_swapped desc) SwapBytes in
     ap (λ ops. slice_get ops (length ops - 1)) (sym (append_assoc (decode pair.from.desc ++ convert pair) front (write ∷ [])))
     ∙ last_of (decode pair.from.desc ++ convert pair ++ front) write
 
@@ -41,5 +42,6 @@ pub no_last : (ops : List Op) (pair : Pair) → ops ≡ recipe pair → None ≡
 no_last ops pair is none = none-some _ (none ∙ ap (λ list. slice_get list (length list - 1)) is ∙ recipe_writes pair)
 
 -- the elements that a Write states
-pub same_write : (elem other : PixType) (planes others : List ℕ) → Write elem planes ≡ Write other others → (elem ≡ other) × (planes ≡ others)
+pub same_write : (elem other : PixType) (planes others : List ℕ) → Write elem planes ≡ Write other others
+    → (elem ≡ other) × (planes ≡ others)
 same_write elem other planes others same = (cc, cc)

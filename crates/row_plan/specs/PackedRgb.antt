@@ -1,4 +1,5 @@
--- Between two RGB formats of one plane whose components are whole bytes a conversion copies: each component of the target is the source's of the same
+-- Between two RGB formats of one plane whose components are whole bytes a conversion copies: each component of the target is the source's
+-- of the same
 -- colour.
 use Rattle.std.specs.Prelude.{◌≡◌, true, ℕ, ◌&&◌, Bool, not, if◌then◌else◌, nat_lt, nat_eq, List, [], ◌∷◌, map, filter, codes}
 use Rattle.std.specs.List.{list_all}
@@ -22,12 +23,14 @@ is_packed_rgb desc = desc.rgb && (not desc.be && (not desc.palette && list_all i
 -- the formats of the table that are
 abbrev pub packed_names : List (List ℕ)
 packed_names =
-    codes "rgb24" ∷ codes "bgr24" ∷ codes "argb" ∷ codes "rgba" ∷ codes "abgr" ∷ codes "bgra" ∷ codes "0rgb" ∷ codes "rgb0" ∷ codes "0bgr" ∷ codes "bgr0" ∷ []
+    codes "rgb24" ∷ codes "bgr24" ∷ codes "argb" ∷ codes "rgba" ∷ codes "abgr" ∷ codes "bgra" ∷ codes "0rgb" ∷ codes "rgb0" ∷ codes
+    "0bgr" ∷ codes "bgr0" ∷ []
 
 abbrev pub ArePackedFormats : Type 0
 ArePackedFormats = map (λ format. format.name) (filter (λ format. is_packed_rgb format.desc) formats) ≡ packed_names
 
--- the value of the target's component j at a pixel: that of the source's component j, which is the same colour, or opaque alpha where the source has none
+-- the value of the target's component j at a pixel: that of the source's component j, which is the same colour, or opaque alpha where the
+-- source has none
 abbrev pub copied : Desc → ℕ → ℕ → List ℕ → ℕ → ℕ → ℕ → ℕ
 copied source width height frame j x y = if nat_lt j source.count then frame_component source width height frame j x y else 255
 

@@ -9,4 +9,5 @@ use Rattle.row_plan.specs.declared.slice.Slice.{Slice}
 -- the output has the elements of the target rows at the first n pixels, counted row by row
 abbrev pub IsConverted : Pair → Elements → Slice → List ℕ → List ℕ → ℕ → Type 0
 IsConverted pair elements slice input output n =
-    HaveSameElements elements.elem elements.planes slice.width slice.rows n output (target_rows pair slice.width slice.rows slice.first input)
+    HaveSameElements elements.elem elements.planes slice.width slice.rows n output
+    (target_rows pair slice.width slice.rows slice.first input)

@@ -5,10 +5,12 @@ use Rattle.pix_desc.specs.Frame.{plane_length, plane_start, row_start, frame_len
 use Rattle.pix_meaning.specs.declared.pair.Pair.{Pair}
 use Rattle.pix_meaning.specs.Pairs.{IsValidPair}
 use Rattle.pix_meaning.specs.Target.{target_rows, target_frame}
+use Rattle.pix_meaning.specs.Examples.{yuv444p, pal8, palette}
 
 -- the bytes of some rows of a plane, from row `first` on
 abbrev pub plane_rows : Desc → ℕ → ℕ → List ℕ → ℕ → ℕ → ℕ → List ℕ
-plane_rows desc width height frame first rows plane = take (plane_length desc width rows plane) (drop (row_start desc width height plane first) frame)
+plane_rows desc width height frame first rows plane =
+    take (plane_length desc width rows plane) (drop (row_start desc width height plane first) frame)
 
 -- those of the planes before one, plane after plane
 abbrev pub planes_before : Desc → ℕ → ℕ → List ℕ → ℕ → ℕ → ℕ → List ℕ
@@ -59,16 +61,19 @@ joined desc width slices = joined_planes desc width slices 4 ++ behind_first des
 abbrev pub targets_of : Pair → ℕ → ℕ → List RowSlice → List RowSlice
 targets_of pair width first [] = []
 targets_of pair width first (slice ∷ slices) =
-    record { rows = slice.rows; bytes = target_rows pair width slice.rows first slice.bytes } ∷ targets_of pair width (first + slice.rows) slices
+    record { rows = slice.rows; bytes = target_rows pair width slice.rows first slice.bytes }
+    ∷ targets_of pair width (first + slice.rows) slices
 
 -- a slice has the length of a raw frame of as many rows
 abbrev pub SlicesAreFrames : Type 0
-SlicesAreFrames = (desc : Desc) (width height first rows : ℕ) (frame : List ℕ) → length frame ≡ frame_length desc width height → first + rows ≤ height
+SlicesAreFrames = (desc : Desc) (width height first rows : ℕ) (frame : List ℕ)
+    → length frame ≡ frame_length desc width height → first + rows ≤ height
     → length (slice_of desc width height frame first rows) ≡ frame_length desc width rows
 
 -- all slices of a frame, put together, are the frame
 abbrev pub SlicesMakeFrame : Type 0
-SlicesMakeFrame = (desc : Desc) (width height : ℕ) (frame counts : List ℕ) → length frame ≡ frame_length desc width height → 0 < length counts → sum counts ≡ height
+SlicesMakeFrame = (desc : Desc) (width height : ℕ) (frame counts : List ℕ)
+    → length frame ≡ frame_length desc width height → 0 < length counts → sum counts ≡ height
     → joined desc width (slices_of desc width height frame 0 counts) ≡ frame
 
 -- the target rows of a slice are the slice of the target frame
@@ -82,4 +87,12 @@ TargetOfSlice = (pair : Pair) (width height first rows : ℕ) (frame : List ℕ)
 abbrev pub TargetsMakeFrame : Type 0
 TargetsMakeFrame = (pair : Pair) (width height : ℕ) (frame counts : List ℕ) → IsValidPair pair → pair.to.desc.palette ≡ false
     → length frame ≡ frame_length pair.from.desc width height → 0 < length counts → sum counts ≡ height
-    → joined pair.to.desc width (targets_of pair width 0 (slices_of pair.from.desc width height frame 0 counts)) ≡ target_frame pair width height frame
+    → joined pair.to.desc width (targets_of pair width 0 (slices_of pair.from.desc width height frame 0 counts))
+    ≡ target_frame pair width height frame
+
+-- two rows of one pixel in three planes, and two of indices: the slice of the second row, and both slices together
+pub record WorkedSlices : Type 0 where
+  pub planes : slice_of yuv444p 1 2 (1 ∷ 2 ∷ 3 ∷ 4 ∷ 5 ∷ 6 ∷ []) 1 1 ≡ 2 ∷ 4 ∷ 6 ∷ []
+  pub entries : slice_of pal8 1 2 (1 ∷ 2 ∷ [] ++ palette) 1 1 ≡ 2 ∷ palette
+  pub together : joined yuv444p 1 (record { rows = 1; bytes = 1 ∷ 3 ∷ 5 ∷ [] } ∷ record { rows = 1; bytes = 2 ∷ 4 ∷ 6 ∷ [] } ∷ [])
+      ≡ 1 ∷ 2 ∷ 3 ∷ 4 ∷ 5 ∷ 6 ∷ []

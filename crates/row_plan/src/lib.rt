@@ -1,7 +1,8 @@
 //! Plans: what is made once for a conversion, and converts slices of rows.
 //!
-//! A plan knows its pair and no size of a frame. `Plan::convert_rows` converts the rows of a slice, whose first row in the
-//! whole frame decides the dither. `specs/Evaluated` says which pairs have a plan.
+//! A plan knows its pair and no size of a frame. `Plan::convert_rows` converts the rows of a slice,
+//! whose first row in the whole frame decides the dither. `specs/Evaluated` says which pairs have a
+//! plan, and `specs/Slices` that a frame is its slices.
 #![tactic(auto)]
 
 pub mod laws;

@@ -9,7 +9,8 @@ ghost use Rattle.row_plan.specs.Evaluated.{IsEvaluated};
 use op_list::OpList;
 use pix_meaning::Pair;
 
-/// What is made once for a pair of formats and converts rows of any size. Its target has no palette.
+/// What is made once for a pair of formats and converts rows of any size. Its target has no
+/// palette.
 #[derive(Drop)]
 pub struct Plan {
     pub(crate) pair: Pair,

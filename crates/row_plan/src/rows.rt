@@ -58,11 +58,15 @@ impl Plan {
         requires planes { elements.now.planes ≡ element_counts self.now.pair.to.desc }
         requires row { row < slice.now.rows }
         requires column { x < slice.now.width }
-        requires input { length input.now ≡ frame_length self.now.pair.from.desc slice.now.width slice.now.rows }
-        requires output { length output.old ≡ frame_length self.now.pair.to.desc slice.now.width slice.now.rows }
-        requires before { IsConverted self.now.pair elements.now slice.now input.now output.old (row * slice.now.width + x) }
+        requires input { length input.now
+            ≡ frame_length self.now.pair.from.desc slice.now.width slice.now.rows }
+        requires output { length output.old
+            ≡ frame_length self.now.pair.to.desc slice.now.width slice.now.rows }
+        requires before { IsConverted self.now.pair elements.now slice.now input.now output.old
+            (row * slice.now.width + x) }
         ensures size { length output.new ≡ length output.old }
-        ensures after { IsConverted self.now.pair elements.now slice.now input.now output.new (row * slice.now.width + x + 1) }
+        ensures after { IsConverted self.now.pair elements.now slice.now input.now output.new
+            (row * slice.now.width + x + 1) }
     {
         let place = PixelPosition {
             width: slice.width,
@@ -90,11 +94,15 @@ impl Plan {
         requires elem { elements.now.elem ≡ element_type self.now.pair.to.desc }
         requires planes { elements.now.planes ≡ element_counts self.now.pair.to.desc }
         requires row { row < slice.now.rows }
-        requires input { length input.now ≡ frame_length self.now.pair.from.desc slice.now.width slice.now.rows }
-        requires output { length output.old ≡ frame_length self.now.pair.to.desc slice.now.width slice.now.rows }
-        requires before { IsConverted self.now.pair elements.now slice.now input.now output.old (row * slice.now.width) }
+        requires input { length input.now
+            ≡ frame_length self.now.pair.from.desc slice.now.width slice.now.rows }
+        requires output { length output.old
+            ≡ frame_length self.now.pair.to.desc slice.now.width slice.now.rows }
+        requires before { IsConverted self.now.pair elements.now slice.now input.now output.old
+            (row * slice.now.width) }
         ensures size { length output.new ≡ length output.old }
-        ensures after { IsConverted self.now.pair elements.now slice.now input.now output.new ((row + 1) * slice.now.width) }
+        ensures after { IsConverted self.now.pair elements.now slice.now input.now output.new
+            ((row + 1) * slice.now.width) }
     {
         for x in 0..slice.width {
             self.convert_pixel(elements, slice, row, x, input, output);
@@ -103,9 +111,12 @@ impl Plan {
 
     // Converts the rows of a slice.
     fn convert_slice(&self, slice: &Slice, input: &[u8], output: &mut [u8])
-        requires input { length input.now ≡ frame_length self.now.pair.from.desc slice.now.width slice.now.rows }
-        requires output { length output.old ≡ frame_length self.now.pair.to.desc slice.now.width slice.now.rows }
-        ensures { output.new ≡ target_rows self.now.pair slice.now.width slice.now.rows slice.now.first input.now }
+        requires input { length input.now
+            ≡ frame_length self.now.pair.from.desc slice.now.width slice.now.rows }
+        requires output { length output.old
+            ≡ frame_length self.now.pair.to.desc slice.now.width slice.now.rows }
+        ensures { output.new
+            ≡ target_rows self.now.pair slice.now.width slice.now.rows slice.now.first input.now }
     {
         let elements = self.written();
         for row in 0..slice.rows {
@@ -113,9 +124,9 @@ impl Plan {
         }
     }
 
-    /// Converts the rows of a slice of `width` pixels by `rows`, whose first row is the row `first` of the whole frame. Input
-    /// and output are raw frames of that width and as many rows, the input with the whole palette where it has one. It
-    /// takes no memory.
+    /// Converts the rows of a slice of `width` pixels by `rows`, whose first row is the row `first`
+    /// of the whole frame, by which the dither goes. Input and output are raw frames of that width and
+    /// as many rows, the input with the whole palette where it has one. It takes no memory.
     pub fn convert_rows(&self, first: u32, width: u32, rows: u32, input: &[u8], output: &mut [u8])
         requires last { first + rows < 2 ^ 32 }
         requires input { length input.now ≡ frame_length self.now.pair.from.desc width rows }

@@ -8,6 +8,7 @@ pub struct Slice {
     pub first: u32,
     /// In pixels.
     pub width: u32,
+    /// How many there are.
     pub rows: u32,
     pub ghost within: { first + rows < 2 ^ 32 },
 }

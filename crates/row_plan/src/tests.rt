@@ -10,7 +10,8 @@ use pix_meaning::{Pair, Side};
 use std::alloc::{AllocError, Global};
 use std::test::Fail;
 
-// A conversion of a slice: name, matrix and range of its sides, and the slice's first row, width and rows.
+// A conversion of a slice: name, matrix and range of its sides, and the slice's first row, width
+// and rows.
 #[derive(Clone, Copy)]
 struct Case<'a> {
     from: (&'a str, &'a str, Range),

@@ -14,7 +14,8 @@ pub run_pixel-requires-clause-frame : goal.run_pixel-requires-clause-frame
 run_pixel-requires-clause-frame c =
     let plan = c.args.self.now in
     let slice = c.args.slice.now in
-    c.requires.input ∙ sym (ap (λ ops. read_length ops slice.width slice.rows) plan.made ∙ reads_frames plan.pair plan.valid slice.width slice.rows)
+    c.requires.input ∙ sym
+    (ap (λ ops. read_length ops slice.width slice.rows) plan.made ∙ reads_frames plan.pair plan.valid slice.width slice.rows)
 
 pub unwrap-numbers-requires : goal.unwrap-numbers-requires
 unwrap-numbers-requires c =
@@ -22,9 +23,12 @@ unwrap-numbers-requires c =
     let elements = c.args.elements.now in
     let slice = c.args.slice.now in
     let small = are_bytes c.args.input.now (λ k. (c.type_inv.input k).fits) in
-    let answer = c.run_pixel.ensures.checked ∙ ap (λ ops. checked_run ops c.args.input.now slice.width slice.rows c.args.x c.args.row (slice.first + c.args.row)) plan.made
+    let answer =
+    c.run_pixel.ensures.checked
+    ∙ ap (λ ops. checked_run ops c.args.input.now slice.width slice.rows c.args.x c.args.row (slice.first + c.args.row)) plan.made
     ∙ evaluates plan.pair elements.elem elements.planes c.args.input.now slice.width slice.rows slice.first c.args.x c.args.row
-    (planned plan elements.elem elements.planes c.requires.elem c.requires.planes) c.requires.column c.requires.row small c.requires.input in
+    (planned plan elements.elem elements.planes c.requires.elem c.requires.planes) c.requires.column c.requires.row small c.requires.input
+    in
     subst IsSome (sym answer) refl
 
 pub store_elements-requires : goal.store_elements-requires
