@@ -19,12 +19,16 @@ to_rgb_rows_are m one zero red_v green_u green_v blue_u h one_is zero_is red_v_i
     let d = differences m h in
     let q = nat m.q in let r = nat m.r in let b = nat m.b in
     let qg = nat-mul q (green_of m) m.q (m.q - m.r - m.b) refl d.green in
-    let rv = red_v_is ∙ over_quotient (nat 2 *ℚ (q -ℚ r)) q (2 * (m.q - m.r)) m.q d.parts (nat-mul (nat 2) (q -ℚ r) 2 (m.q - m.r) refl d.red) refl in
-    let gu = green_u_is ∙ over_negative (nat 2 *ℚ b *ℚ (q -ℚ b)) (q *ℚ green_of m) (2 * m.b * (m.q - m.b)) (m.q * (m.q - m.r - m.b)) d.times_green
+    let rv = red_v_is ∙ over_quotient (nat 2 *ℚ (q -ℚ r)) q (2 * (m.q - m.r)) m.q d.parts
+    (nat-mul (nat 2) (q -ℚ r) 2 (m.q - m.r) refl d.red) refl in
+    let gu = green_u_is ∙ over_negative (nat 2 *ℚ b *ℚ (q -ℚ b)) (q *ℚ green_of m) (2 * m.b * (m.q - m.b))
+    (m.q * (m.q - m.r - m.b)) d.times_green
     (nat-mul (nat 2 *ℚ b) (q -ℚ b) (2 * m.b) (m.q - m.b) (nat-mul (nat 2) b 2 m.b refl refl) d.blue) qg in
-    let gv = green_v_is ∙ over_negative (nat 2 *ℚ r *ℚ (q -ℚ r)) (q *ℚ green_of m) (2 * m.r * (m.q - m.r)) (m.q * (m.q - m.r - m.b)) d.times_green
+    let gv = green_v_is ∙ over_negative (nat 2 *ℚ r *ℚ (q -ℚ r)) (q *ℚ green_of m) (2 * m.r * (m.q - m.r))
+    (m.q * (m.q - m.r - m.b)) d.times_green
     (nat-mul (nat 2 *ℚ r) (q -ℚ r) (2 * m.r) (m.q - m.r) (nat-mul (nat 2) r 2 m.r refl refl) d.red) qg in
-    let bu = blue_u_is ∙ over_quotient (nat 2 *ℚ (q -ℚ b)) q (2 * (m.q - m.b)) m.q d.parts (nat-mul (nat 2) (q -ℚ b) 2 (m.q - m.b) refl d.blue) refl in
+    let bu = blue_u_is ∙ over_quotient (nat 2 *ℚ (q -ℚ b)) q (2 * (m.q - m.b)) m.q d.parts
+    (nat-mul (nat 2) (q -ℚ b) 2 (m.q - m.b) refl d.blue) refl in
     λ i. (one_is i ∷ zero_is i ∷ rv i ∷ []) ∷ (one_is i ∷ gu i ∷ gv i ∷ []) ∷ (one_is i ∷ bu i ∷ zero_is i ∷ []) ∷ []
 
 -- the coefficients of `from_rgb`
@@ -38,7 +42,8 @@ pub from_rgb_rows_are : (m : Matrix) (half luma_r luma_g luma_b blue_r blue_g re
     → red_b ≡ over (neg_ℤ (pos m.b)) (2 * (m.q - m.r))
     → (luma_r ∷ luma_g ∷ luma_b ∷ []) ∷ (blue_r ∷ blue_g ∷ half ∷ []) ∷ (half ∷ red_g ∷ red_b ∷ []) ∷ [] ≡ from_rgb_rows m
 unfolding from_rgb_rows
-from_rgb_rows_are m half luma_r luma_g luma_b blue_r blue_g red_g red_b h half_is luma_r_is luma_g_is luma_b_is blue_r_is blue_g_is red_g_is red_b_is =
+from_rgb_rows_are m half luma_r luma_g luma_b blue_r blue_g red_g red_b h half_is luma_r_is luma_g_is luma_b_is blue_r_is blue_g_is red_g_is
+    red_b_is =
     let d = differences m h in
     let q = nat m.q in let r = nat m.r in let b = nat m.b in let g = green_of m in
     let g' = m.q - m.r - m.b in

@@ -17,7 +17,8 @@ use Rattle.colour_matrix.specs.declared.class.Levels.{Levels}
 pub scaled_is : (depth code : ℕ) → over (pos (2 ^ depth * code)) 256 ≡ scaled_to depth code
 unfolding scaled_to
 scaled_is depth code =
-    same _ _ _ _ _ _ (over_stands (pos (2 ^ depth * code)) 256 (omega arith)) (mul_stands _ _ _ _ _ _ (over_stands (pos (2 ^ depth)) 256 (omega arith)) (itself (nat code))) refl
+    same _ _ _ _ _ _ (over_stands (pos (2 ^ depth * code)) 256 (omega arith))
+    (mul_stands _ _ _ _ _ _ (over_stands (pos (2 ^ depth)) 256 (omega arith)) (itself (nat code))) refl
 
 scaled_positive : (depth code : ℕ) → 0 < code → nat 0 <ℚ scaled_to depth code
 scaled_positive depth code h =

@@ -37,7 +37,8 @@ second_column rows = same_values _ _ (only_second _ _ _) (only_second _ _ _) (on
 third_column : (rows : List (List ℚ)) → by_rows rows one_third ≡ column rows 2
 third_column rows = same_values _ _ (only_third _ _ _) (only_third _ _ _) (only_third _ _ _) refl
 
-rows_product : (r s t : List ℚ) (inner : List (List ℚ)) → ((e : Values) → by_rows (r ∷ s ∷ t ∷ []) (by_rows inner e) ≡ e) → product (r ∷ s ∷ t ∷ []) inner ≡ identity
+rows_product : (r s t : List ℚ) (inner : List (List ℚ)) → ((e : Values) → by_rows (r ∷ s ∷ t ∷ []) (by_rows inner e) ≡ e)
+    → product (r ∷ s ∷ t ∷ []) inner ≡ identity
 rows_product r s t inner back =
     let first = sym (first_column inner) in
     let second = sym (second_column inner) in
@@ -54,5 +55,7 @@ rows_product r s t inner back =
     λ i. (r0 i ∷ r1 i ∷ r2 i ∷ []) ∷ (s0 i ∷ s1 i ∷ s2 i ∷ []) ∷ (t0 i ∷ t1 i ∷ t2 i ∷ []) ∷ []
 
 -- three rows that undo others on all values have the identity as their product with them
-pub product_is : (outer inner : List (List ℚ)) → outer ≡ row_at outer 0 ∷ row_at outer 1 ∷ row_at outer 2 ∷ [] → ((e : Values) → by_rows outer (by_rows inner e) ≡ e) → product outer inner ≡ identity
-product_is outer inner three back = ap (λ rows. product rows inner) three ∙ rows_product (row_at outer 0) (row_at outer 1) (row_at outer 2) inner back
+pub product_is : (outer inner : List (List ℚ)) → outer ≡ row_at outer 0 ∷ row_at outer 1 ∷ row_at outer 2 ∷ []
+    → ((e : Values) → by_rows outer (by_rows inner e) ≡ e) → product outer inner ≡ identity
+product_is outer inner three back = ap (λ rows. product rows inner) three
+    ∙ rows_product (row_at outer 0) (row_at outer 1) (row_at outer 2) inner back

@@ -1,7 +1,8 @@
 // What a component is, which codes it takes, and the levels that follow.
 use frac_math::Frac;
 
-/// Which codes stand for the least and the greatest value: all of them, or a part with room on both sides
+/// Which codes stand for the least and the greatest value: all of them, or a part with room on both
+/// sides
 /// (`VideoFullRangeFlag` of ITU-T H.273 section 8.3).
 #[derive(Clone, Copy, Debug, PartialEq, Eq)]
 pub enum Range {

@@ -7,7 +7,8 @@ use crate::class::{Class, Levels, Range};
 use crate::ratio::{ratio, whole};
 use frac_math::Frac;
 
-/// The levels of a component of `depth` bits, 1 to 16. Red, green, blue and alpha have all codes, whatever the range.
+/// The levels of a component of `depth` bits, 1 to 16. Red, green, blue and alpha have all codes,
+/// whatever the range.
 pub fn levels(class: Class, depth: u8, range: Range) -> Levels
     requires some_depth { 1 ≤ depth }
     requires greatest_depth { depth ≤ 16 }

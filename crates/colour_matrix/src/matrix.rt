@@ -7,7 +7,8 @@ ghost use Rattle.colour_matrix.specs.Colour.{to_rgb, from_rgb, to_rgb_rows, from
 use crate::ratio::{negative_ratio, ratio, whole};
 use frac_math::Frac;
 
-/// A matrix: of `q` parts of luma `r` are red, `b` are blue, and the rest is green. It is meant with `r >= 1`, `b >= 1`
+/// A matrix: of `q` parts of luma `r` are red, `b` are blue, and the rest is green. It is meant
+/// with `r >= 1`, `b >= 1`
 /// and `r + b < q <= 16777216`. In the words of ITU-T H.273 section 8.3 K_R is r/q and K_B is b/q.
 #[derive(Clone, Copy, Debug, PartialEq, Eq)]
 pub struct Matrix {

@@ -1,4 +1,4 @@
-// What holds of the whole table.
+//! Laws of the whole table: each is the contract of a function without a body.
 ghost use Rattle.std.specs.Prelude.{◌≡◌, ℕ, ◌<◌, All, Ok, Err, codes, nat_eq};
 ghost use Rattle.std.specs.List.{ends_with};
 ghost use Rattle.pix_desc.specs.Component.{components};

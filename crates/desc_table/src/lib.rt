@@ -1,9 +1,9 @@
-// The pixel formats that are known by name.
+//! The pixel formats that are known by name, after FFmpeg's libavutil/pixdesc.c, and the names that are refused.
 #![tactic(auto)]
 
 mod fault;
 mod id;
-mod laws;
+pub mod laws;
 mod names;
 mod table;
 #[cfg(test)]
@@ -11,4 +11,3 @@ mod tests;
 
 pub use fault::FormatFault;
 pub use id::{FormatId, at, count, desc, find, index, name};
-pub use laws::{byte_orders, layouts, names_differ, spare_entries};

@@ -24,7 +24,8 @@ not_zero_from_test : (z : ℤ) → not (int_eq z (pos 0)) ≡ true → z ≡ pos
 not_zero_from_test z h e = let t = (Decides-int_eq z (pos 0)).1 e in absurd (cc)
 
 test_from_not_zero : (z : ℤ) → (z ≡ pos 0 → ⊥) → not (int_eq z (pos 0)) ≡ true
-test_from_not_zero z h = (elim (int_eq z (pos 0)) as (λ b. int_eq z (pos 0) ≡ b → not b ≡ true) [ true ↦ λ e. absurd (h ((Decides-int_eq z (pos 0)).0 e)) | false ↦ λ e. refl ]) refl
+test_from_not_zero z h = (elim (int_eq z (pos 0)) as
+    (λ b. int_eq z (pos 0) ≡ b → not b ≡ true) [ true ↦ λ e. absurd (h ((Decides-int_eq z (pos 0)).0 e)) | false ↦ λ e. refl ]) refl
 
 both_true : (a b : Bool) → a ≡ true → b ≡ true → (a && b) ≡ true
 both_true a b p q = rw (p, q)
@@ -56,18 +57,33 @@ checked_ratio_exact n d =
     let a = not (int_eq d (pos 0)) in let b = is_i128 (ratio n d).numerator in let c = is_i128 (pos (ratio n d).denominator) in
     some_by_test (RatioFits n d) (ratio n d) (a && b && c)
     (λ t. let u = and_left (a && b) c t in
-    record { divisor = not_zero_from_test d (and_left a b u); numerator = fits_from_test _ (and_right a b u); denominator = fits_from_test _ (and_right (a && b) c t) })
-    (λ p. both_true (a && b) c (both_true a b (test_from_not_zero d p.divisor) (test_from_fits _ p.numerator)) (test_from_fits _ p.denominator))
+    record {
+      divisor = not_zero_from_test d (and_left a b u);
+      numerator = fits_from_test _ (and_right a b u);
+      denominator =
+          fits_from_test _ (and_right (a && b) c t);
+    })
+    (λ p. both_true (a && b) c (both_true a b (test_from_not_zero d p.divisor) (test_from_fits _ p.numerator))
+    (test_from_fits _ p.denominator))
 
 pub checked_sum_exact : (x y : ℚ) → SomeIff (checked_sum x y) (SumFits x y) (x +ℚ y)
 unfolding checked_sum
 checked_sum_exact x y =
     let left = x.numerator *ℤ pos y.denominator in let right = y.numerator *ℤ pos x.denominator in
-    let a = is_i128 left in let b = is_i128 right in let c = is_i128 (left +ℤ right) in let d = is_i128 (pos x.denominator *ℤ pos y.denominator) in
+    let a = is_i128 left in let b = is_i128 right in let c = is_i128 (left +ℤ right) in let d =
+    is_i128 (pos x.denominator *ℤ pos y.denominator) in
     some_by_test (SumFits x y) (x +ℚ y) (a && b && c && d)
     (λ t. let u = and_left (a && b && c) d t in let v = and_left (a && b) c u in
-    record { left = fits_from_test _ (and_left a b v); right = fits_from_test _ (and_right a b v); sum = fits_from_test _ (and_right (a && b) c u); denominator = fits_from_test _ (and_right (a && b && c) d t) })
-    (λ p. both_true (a && b && c) d (both_true (a && b) c (both_true a b (test_from_fits _ p.left) (test_from_fits _ p.right)) (test_from_fits _ p.sum)) (test_from_fits _ p.denominator))
+    record {
+      left = fits_from_test _ (and_left a b v);
+      right = fits_from_test _ (and_right a b v);
+      sum =
+          fits_from_test _ (and_right (a && b) c u);
+      denominator = fits_from_test _ (and_right (a && b && c) d t);
+    })
+    (λ p. both_true (a && b && c) d
+    (both_true (a && b) c (both_true a b (test_from_fits _ p.left) (test_from_fits _ p.right)) (test_from_fits _ p.sum))
+    (test_from_fits _ p.denominator))
 
 pub checked_product_exact : (x y : ℚ) → SomeIff (checked_product x y) (ProductFits x y) (x *ℚ y)
 unfolding checked_product
@@ -86,8 +102,14 @@ checked_quotient_exact x y =
     let c = is_i128 (pos x.denominator *ℤ y.numerator *ℤ sign) in
     some_by_test (QuotientFits x y) (x /ℚ y) (a && b && c)
     (λ t. let u = and_left (a && b) c t in
-    record { divisor = not_zero_from_test y.numerator (and_left a b u); numerator = fits_from_test _ (and_right a b u); denominator = fits_from_test _ (and_right (a && b) c t) })
-    (λ p. both_true (a && b) c (both_true a b (test_from_not_zero y.numerator p.divisor) (test_from_fits _ p.numerator)) (test_from_fits _ p.denominator))
+    record {
+      divisor = not_zero_from_test y.numerator (and_left a b u);
+      numerator = fits_from_test _ (and_right a b u);
+      denominator =
+          fits_from_test _ (and_right (a && b) c t);
+    })
+    (λ p. both_true (a && b) c (both_true a b (test_from_not_zero y.numerator p.divisor) (test_from_fits _ p.numerator))
+    (test_from_fits _ p.denominator))
 
 -- ---- the answers where the numbers fit, and the values of the answers
 pub checked_sum_some : (x y : ℚ) → SumFits x y → checked_sum x y ≡ Some (x +ℚ y)

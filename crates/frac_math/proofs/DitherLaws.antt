@@ -1,4 +1,4 @@
--- The dither is an odd number over 2 * 4 ^ k, lies between 0 and 1, and gives the digits of its place back.
+-- The dither is an odd number over 2 * 4 ^ k, lies between 0 and 1, and gives the digits of column and row back.
 use Rattle.std.proofs.Common.{◌≡◌, ℕ, zero, suc, ◌+◌, ◌-◌, ◌*◌, ◌/◌, ◌%◌, ◌^◌, ◌<◌, ◌≤◌, ℤ, pos, ◌*ℤ◌, refl, sym, ◌∙◌, ap, subst, arith, add-one}
 use Rattle.std.proofs.Math.Pow.{mod-mod-pow}
 use Rattle.std.proofs.lemmas.Int.{ints}
@@ -35,17 +35,17 @@ unfolding index_number
 index_number_below zero x y = omega arith
 index_number_below (suc i) x y = omega (arith, index_number_below i x y, index_most (digit i x) (digit i y), pow-suc 4 i)
 
-places_positive : (k : ℕ) → 0 < 4 ^ k
-places_positive k = omega (arith, index_number_below k 0 0)
+power_positive : (k : ℕ) → 0 < 4 ^ k
+power_positive k = omega (arith, index_number_below k 0 0)
 
--- both numbers are small, for a dither of up to 16 by 16 places
+-- both numbers are small, for a dither of up to 16 by 16 pixels
 pub small_numbers : (k x y : ℕ) → k ≤ 4 → (index_number k x y < 256) × (0 < 4 ^ k) × (4 ^ k ≤ 256)
 small_numbers k x y h =
     let most : 4 ^ k ≤ 4 ^ 4 = pow-le-pow_right (omega arith) h in
-    (omega (arith, index_number_below k x y, most), places_positive k, omega (arith, most))
+    (omega (arith, index_number_below k x y, most), power_positive k, omega (arith, most))
 
-by_places : (m n p q r : ℕ) → q ≡ 4 * p → q ≡ r → (m * q + n * p) * r ≡ (4 * m + n) * (p * q)
-by_places m n p q r e f = subst (λ (s : ℕ). (m * q + n * p) * s ≡ (4 * m + n) * (p * q)) f (omega (arith, ap (λ (t : ℕ). m * t * q) e))
+over_products : (m n p q r : ℕ) → q ≡ 4 * p → q ≡ r → (m * q + n * p) * r ≡ (4 * m + n) * (p * q)
+over_products m n p q r e f = subst (λ (s : ℕ). (m * q + n * p) * s ≡ (4 * m + n) * (p * q)) f (omega (arith, ap (λ (t : ℕ). m * t * q) e))
 
 sum_stands : (k x y : ℕ) → Stands (index_sum k x y) (pos (index_number k x y)) (4 ^ k)
 unfolding index_number
@@ -54,8 +54,9 @@ sum_stands (suc i) x y =
     let n = index (digit i x) (digit i y) in
     let e : 4 ^ (i + 1) ≡ 4 ^ suc i = ap (λ (m : ℕ). 4 ^ m) (add-one i) in
     let step : 4 ^ (i + 1) ≡ 4 * 4 ^ i = omega (arith, e, pow-suc 4 i) in
-    change _ _ _ _ _ (add_stands _ _ _ _ _ _ (sum_stands i x y) (over_stands (pos n) (4 ^ (i + 1)) (places_positive (i + 1)))) (places_positive (suc i))
-    (ap pos (by_places (index_number i x y) n (4 ^ i) (4 ^ (i + 1)) (4 ^ suc i) step e))
+    change _ _ _ _ _ (add_stands _ _ _ _ _ _ (sum_stands i x y) (over_stands (pos n) (4 ^ (i + 1)) (power_positive (i + 1))))
+    (power_positive (suc i))
+    (ap pos (over_products (index_number i x y) n (4 ^ i) (4 ^ (i + 1)) (4 ^ suc i) step e))
 
 halves : (n p : ℕ) → (n * (2 * p) + 1 * p) * (2 * p) ≡ (2 * n + 1) * (p * (2 * p))
 halves n p = omega arith
@@ -63,13 +64,15 @@ halves n p = omega arith
 pub dither_stands : (k x y : ℕ) → Stands (dither_at k x y) (pos (2 * index_number k x y + 1)) (2 * 4 ^ k)
 unfolding dither_at
 dither_stands k x y =
-    let positive : 0 < 2 * 4 ^ k = omega (arith, places_positive k) in
-    change _ _ _ _ _ (add_stands _ _ _ _ _ _ (sum_stands k x y) (over_stands (pos 1) (2 * 4 ^ k) positive)) positive (ap pos (halves (index_number k x y) (4 ^ k)))
+    let positive : 0 < 2 * 4 ^ k = omega (arith, power_positive k) in
+    change _ _ _ _ _ (add_stands _ _ _ _ _ _ (sum_stands k x y) (over_stands (pos 1) (2 * 4 ^ k) positive)) positive
+    (ap pos (halves (index_number k x y) (4 ^ k)))
 
 -- what the code's two numbers give
-pub dither_known : (r : ℚ) (k i x y sum places : ℕ) → i ≡ k → sum ≡ index_number i x y → places ≡ 4 ^ i → r ≡ over (pos (2 * sum + 1)) (2 * places) → r ≡ dither_at k x y
-dither_known r k i x y sum places e p q h =
-    let positive : 0 < 2 * 4 ^ k = omega (arith, places_positive k) in
+pub dither_known : (r : ℚ) (k i x y sum cells : ℕ) → i ≡ k → sum ≡ index_number i x y → cells ≡ 4 ^ i
+    → r ≡ over (pos (2 * sum + 1)) (2 * cells) → r ≡ dither_at k x y
+dither_known r k i x y sum cells e p q h =
+    let positive : 0 < 2 * 4 ^ k = omega (arith, power_positive k) in
     h
     ∙ rw (p, q, e) (same _ _ _ _ _ _ (over_stands (pos (2 * index_number k x y + 1)) (2 * 4 ^ k) positive) (dither_stands k x y) refl)
 
@@ -110,7 +113,7 @@ dither_repeats k x y =
     same _ _ _ _ _ _ (dither_stands k (x % 2 ^ k) (y % 2 ^ k)) (dither_stands k x y)
     (ap (λ (n : ℕ). pos (2 * n + 1) *ℤ pos (2 * 4 ^ k)) (index_number_mod k k x y (omega arith)))
 
--- ---- one place, one dither: the digits come back from the number in the index matrix
+-- ---- one pixel of the square, one dither: the digits come back from the number in the index matrix
 column_of : ℕ → ℕ
 column_of zero = 0
 column_of (suc zero) = 1
@@ -152,21 +155,25 @@ one_more k x u g h =
     ∙ sym (mod-pow-add u 1 k)
     ∙ ap (λ (m : ℕ). u % 2 ^ m) (sym e)
 
-index_number_place : (k x y u v : ℕ) → index_number k x y ≡ index_number k u v → (x % 2 ^ k ≡ u % 2 ^ k) × (y % 2 ^ k ≡ v % 2 ^ k)
+index_number_digits : (k x y u v : ℕ) → index_number k x y ≡ index_number k u v → (x % 2 ^ k ≡ u % 2 ^ k) × (y % 2 ^ k ≡ v % 2 ^ k)
 unfolding index_number
-index_number_place zero x y u v e = (omega arith, omega arith)
-index_number_place (suc k) x y u v e =
+index_number_digits zero x y u v e = (omega arith, omega arith)
+index_number_digits (suc k) x y u v e =
     let m = index_most (digit k x) (digit k y) in
     let n = index_most (digit k u) (digit k v) in
-    let rest = index_number_place k x y u v (omega arith) in
+    let rest = index_number_digits k x y u v (omega arith) in
     let last : index (digit k x) (digit k y) ≡ index (digit k u) (digit k v) = omega arith in
-    let column = sym (column_of-index (digit k x) (digit k y) (digit_below k x) (digit_below k y)) ∙ ap column_of last ∙ column_of-index (digit k u) (digit k v) (digit_below k u) (digit_below k v) in
-    let row = sym (row_of-index (digit k x) (digit k y) (digit_below k x) (digit_below k y)) ∙ ap row_of last ∙ row_of-index (digit k u) (digit k v) (digit_below k u) (digit_below k v) in
+    let column = sym (column_of-index (digit k x) (digit k y) (digit_below k x) (digit_below k y)) ∙ ap column_of last
+    ∙ column_of-index (digit k u) (digit k v) (digit_below k u) (digit_below k v) in
+    let row = sym (row_of-index (digit k x) (digit k y) (digit_below k x) (digit_below k y)) ∙ ap row_of last
+    ∙ row_of-index (digit k u) (digit k v) (digit_below k u) (digit_below k v) in
     (one_more k x u column rest.0, one_more k y v row rest.1)
 
-pub dither_distinct : (k x y u v : ℕ) → x < 2 ^ k → y < 2 ^ k → u < 2 ^ k → v < 2 ^ k → dither_at k x y ≡ dither_at k u v → (x ≡ u) × (y ≡ v)
+pub dither_distinct : (k x y u v : ℕ) → x < 2 ^ k → y < 2 ^ k → u < 2 ^ k → v < 2 ^ k → dither_at k x y ≡ dither_at k u v
+    → (x ≡ u) × (y ≡ v)
 dither_distinct k x y u v a b c d e =
     let numbers : pos (2 * index_number k x y + 1) ≡ pos (2 * index_number k u v + 1) =
-    same_numerator _ _ _ _ (dither_stands k x y) (subst (λ (q : ℚ). Stands q (pos (2 * index_number k u v + 1)) (2 * 4 ^ k)) (sym e) (dither_stands k u v)) in
-    let places = index_number_place k x y u v (omega (arith, ints, numbers)) in
-    (sym (mod-eq_of_lt a) ∙ places.0 ∙ mod-eq_of_lt c, sym (mod-eq_of_lt b) ∙ places.1 ∙ mod-eq_of_lt d)
+    same_numerator _ _ _ _ (dither_stands k x y)
+    (subst (λ (q : ℚ). Stands q (pos (2 * index_number k u v + 1)) (2 * 4 ^ k)) (sym e) (dither_stands k u v)) in
+    let digits = index_number_digits k x y u v (omega (arith, ints, numbers)) in
+    (sym (mod-eq_of_lt a) ∙ digits.0 ∙ mod-eq_of_lt c, sym (mod-eq_of_lt b) ∙ digits.1 ∙ mod-eq_of_lt d)

@@ -18,7 +18,8 @@ le_floor_ℤ (pos b) (pos a) d p h = (let t : b ≤ a / d = (le-div_iff_mul-le p
 le_floor_ℤ (negsuc b) (pos a) d p h = omega (arith, ints)
 le_floor_ℤ (pos b) (negsuc a) d p h = absurd (omega (arith, ints, h))
 le_floor_ℤ (negsuc b) (negsuc a) d p h =
-    let t : a / d < b + 1 = (div-lt_iff_lt-mul p).1 (omega (arith, product_is (negsuc b) (pos d), le_out (negsuc b *ℤ pos d) (negsuc a) h)) in
+    let t : a / d < b + 1 = (div-lt_iff_lt-mul p).1
+    (omega (arith, product_is (negsuc b) (pos d), le_out (negsuc b *ℤ pos d) (negsuc a) h)) in
     omega (arith, ints)
 
 floor_le_ℤ : (z n : ℤ) (d : ℕ) → 0 < d → z ≤ℤ int_div_euclid n (pos d) → (z *ℤ pos d) ≤ℤ n
@@ -33,11 +34,16 @@ floor_le_ℤ (negsuc b) (negsuc a) d p h =
 -- a whole number is at most x exactly where it is at most the floor
 pub le_floor : (z : ℤ) (x : ℚ) → whole z ≤ℚ x → z ≤ℤ floor x
 unfolding floor
-le_floor z x h = le_floor_ℤ z x.numerator x.denominator (denominator_positive x) (subst (λ (n : ℤ). (z *ℤ pos x.denominator) ≤ℤ n) (mul-one_ℤ x.numerator) h.at_most)
+le_floor z x h = le_floor_ℤ z x.numerator x.denominator (denominator_positive x)
+    (subst (λ (n : ℤ). (z *ℤ pos x.denominator) ≤ℤ n) (mul-one_ℤ x.numerator) h.at_most)
 
 pub floor_le : (z : ℤ) (x : ℚ) → z ≤ℤ floor x → whole z ≤ℚ x
 unfolding floor
-floor_le z x h = record { at_most = subst (λ (n : ℤ). (z *ℤ pos x.denominator) ≤ℤ n) (sym (mul-one_ℤ x.numerator)) (floor_le_ℤ z x.numerator x.denominator (denominator_positive x) h) }
+floor_le z x h = record {
+  at_most =
+      subst (λ (n : ℤ). (z *ℤ pos x.denominator) ≤ℤ n) (sym (mul-one_ℤ x.numerator))
+      (floor_le_ℤ z x.numerator x.denominator (denominator_positive x) h);
+}
 
 pub floor_below : (x : ℚ) → whole (floor x) ≤ℚ x
 floor_below x = floor_le (floor x) x (≤ℤ_refl (floor x))
@@ -47,7 +53,8 @@ floor_above x = lt_of_not_le_ℚ _ _ (λ h. absurd (omega (arith, ints, le_floor
 
 pub floor_is : (x : ℚ) (z : ℤ) → whole z ≤ℚ x → x <ℚ whole (z +ℤ pos 1) → floor x ≡ z
 floor_is x z p q =
-    let above : floor x <ℤ (z +ℤ pos 1) = by_lt_z (floor x) (z +ℤ pos 1) (λ h. h) (λ h. absurd (lt_not_le_ℚ _ _ q (floor_le (z +ℤ pos 1) x h))) in
+    let above : floor x <ℤ (z +ℤ pos 1) =
+    by_lt_z (floor x) (z +ℤ pos 1) (λ h. h) (λ h. absurd (lt_not_le_ℚ _ _ q (floor_le (z +ℤ pos 1) x h))) in
     omega (arith, ints, le_floor z x p)
 
 pub floor_mono : (x y : ℚ) → x ≤ℚ y → floor x ≤ℤ floor y
@@ -57,10 +64,12 @@ floor_mono x y h = le_floor (floor x) y (le_trans_ℚ (whole (floor x)) x y (flo
 pub floor_stands : (x : ℚ) (n : ℤ) (d : ℕ) → Stands x n d → floor x ≡ int_div_euclid n (pos d)
 floor_stands x n d s =
     let low : floor x ≤ℤ int_div_euclid n (pos d) = le_floor_ℤ (floor x) n d s.positive
-    (let c = cross_by_le _ _ _ _ _ _ (itself (whole (floor x))) s (floor_below x) in subst (λ (m : ℤ). (floor x *ℤ pos d) ≤ℤ m) (mul-one_ℤ n) c) in
+    (let c = cross_by_le _ _ _ _ _ _ (itself (whole (floor x))) s (floor_below x) in
+    subst (λ (m : ℤ). (floor x *ℤ pos d) ≤ℤ m) (mul-one_ℤ n) c) in
     let high : int_div_euclid n (pos d) ≤ℤ floor x = le_floor (int_div_euclid n (pos d)) x
     (le_by_cross _ _ _ _ _ _ (itself (whole (int_div_euclid n (pos d)))) s
-    (subst (λ (m : ℤ). (int_div_euclid n (pos d) *ℤ pos d) ≤ℤ m) (sym (mul-one_ℤ n)) (floor_le_ℤ (int_div_euclid n (pos d)) n d s.positive (≤ℤ_refl (int_div_euclid n (pos d)))))) in
+    (subst (λ (m : ℤ). (int_div_euclid n (pos d) *ℤ pos d) ≤ℤ m) (sym (mul-one_ℤ n))
+    (floor_le_ℤ (int_div_euclid n (pos d)) n d s.positive (≤ℤ_refl (int_div_euclid n (pos d)))))) in
     omega (arith, ints)
 
 pub floor_whole : (z : ℤ) → floor (whole z) ≡ z
@@ -70,7 +79,8 @@ pub floor-add-whole : (x : ℚ) (z : ℤ) → floor (x +ℚ whole z) ≡ floor x
 floor-add-whole x z =
     floor_is (x +ℚ whole z) (floor x +ℤ z)
     (subst (λ (w : ℚ). w ≤ℚ (x +ℚ whole z)) (sym (whole-add (floor x) z)) (add_le_ℚ (whole (floor x)) x (whole z) (floor_below x)))
-    (subst (λ (w : ℚ). (x +ℚ whole z) <ℚ w) (sym (whole-add (floor x +ℤ pos 1) z) ∙ ap whole (omega (arith, ints))) (add_lt_ℚ x (whole (floor x +ℤ pos 1)) (whole z) (floor_above x)))
+    (subst (λ (w : ℚ). (x +ℚ whole z) <ℚ w) (sym (whole-add (floor x +ℤ pos 1) z)
+    ∙ ap whole (omega (arith, ints))) (add_lt_ℚ x (whole (floor x +ℤ pos 1)) (whole z) (floor_above x)))
 
 -- a dither between 0 and 1 leaves a whole number
 pub floor_dither : (z : ℤ) (m : ℚ) → whole (pos 0) ≤ℚ m → m <ℚ whole (pos 1) → floor (whole z +ℚ m) ≡ z

@@ -17,7 +17,8 @@ mono_ℤ a b c h = at_most_in _ _ (omega (arith, product_is a (pos c), product_i
 
 pub cancel_le_ℤ : (a b : ℤ) (c : ℕ) → 0 < c → (a *ℤ pos c) ≤ℤ (b *ℤ pos c) → a ≤ℤ b
 cancel_le_ℤ a b c p h =
-    let t : (up a + down b) * c ≤ (up b + down a) * c = omega (arith, product_is a (pos c), product_is b (pos c), le_out (a *ℤ pos c) (b *ℤ pos c) h) in
+    let t : (up a + down b) * c ≤ (up b + down a) * c =
+    omega (arith, product_is a (pos c), product_is b (pos c), le_out (a *ℤ pos c) (b *ℤ pos c) h) in
     at_most_in _ _ (le_of_mul-le-mul_right t p)
 
 pub le_by_cross : (x y : ℚ) (n m : ℤ) (d e : ℕ) → Stands x n d → Stands y m e → (n *ℤ pos e) ≤ℤ (m *ℤ pos d) → x ≤ℚ y
@@ -26,20 +27,25 @@ le_by_cross x y n m d e s t h =
     record {
       at_most = cancel_le_ℤ _ _ (d * e) (product_positive d e s.positive t.positive)
           (subst (λ (z : ℤ). z ≤ℤ (y.numerator *ℤ pos x.denominator *ℤ (pos d *ℤ pos e)))
-          (ring_from ints_ring env (var 2 ⊗ var 7 ⊗ (var 4 ⊗ var 5)) (var 0 ⊗ var 5 ⊗ (var 6 ⊗ var 7)) (by (minus (var 5 ⊗ var 7)) (var 0 ⊗ var 6) (var 2 ⊗ var 4) done) (s.cross, tt) refl)
+          (ring_from ints_ring env (var 2 ⊗ var 7 ⊗ (var 4 ⊗ var 5)) (var 0 ⊗ var 5 ⊗ (var 6 ⊗ var 7))
+          (by (minus (var 5 ⊗ var 7)) (var 0 ⊗ var 6) (var 2 ⊗ var 4) done) (s.cross, tt) refl)
           (subst (λ (z : ℤ). (n *ℤ pos e *ℤ (pos x.denominator *ℤ pos y.denominator)) ≤ℤ z)
-          (ring_from ints_ring env (var 3 ⊗ var 6 ⊗ (var 4 ⊗ var 5)) (var 1 ⊗ var 4 ⊗ (var 6 ⊗ var 7)) (by (minus (var 4 ⊗ var 6)) (var 1 ⊗ var 7) (var 3 ⊗ var 5) done) (t.cross, tt) refl)
+          (ring_from ints_ring env (var 3 ⊗ var 6 ⊗ (var 4 ⊗ var 5)) (var 1 ⊗ var 4 ⊗ (var 6 ⊗ var 7))
+          (by (minus (var 4 ⊗ var 6)) (var 1 ⊗ var 7) (var 3 ⊗ var 5) done) (t.cross, tt) refl)
           (mono_ℤ (n *ℤ pos e) (m *ℤ pos d) (x.denominator * y.denominator) h)));
     }
 
 pub cross_by_le : (x y : ℚ) (n m : ℤ) (d e : ℕ) → Stands x n d → Stands y m e → x ≤ℚ y → (n *ℤ pos e) ≤ℤ (m *ℤ pos d)
 cross_by_le x y n m d e s t h =
     let env = x.numerator ∷ y.numerator ∷ n ∷ m ∷ pos x.denominator ∷ pos y.denominator ∷ pos d ∷ pos e ∷ [] in
-    cancel_le_ℤ _ _ (x.denominator * y.denominator) (product_positive x.denominator y.denominator (denominator_positive x) (denominator_positive y))
+    cancel_le_ℤ _ _ (x.denominator * y.denominator)
+    (product_positive x.denominator y.denominator (denominator_positive x) (denominator_positive y))
     (subst (λ (z : ℤ). z ≤ℤ (m *ℤ pos d *ℤ (pos x.denominator *ℤ pos y.denominator)))
-    (ring_from ints_ring env (var 0 ⊗ var 5 ⊗ (var 6 ⊗ var 7)) (var 2 ⊗ var 7 ⊗ (var 4 ⊗ var 5)) (by (var 5 ⊗ var 7) (var 0 ⊗ var 6) (var 2 ⊗ var 4) done) (s.cross, tt) refl)
+    (ring_from ints_ring env (var 0 ⊗ var 5 ⊗ (var 6 ⊗ var 7)) (var 2 ⊗ var 7 ⊗ (var 4 ⊗ var 5))
+    (by (var 5 ⊗ var 7) (var 0 ⊗ var 6) (var 2 ⊗ var 4) done) (s.cross, tt) refl)
     (subst (λ (z : ℤ). (x.numerator *ℤ pos y.denominator *ℤ (pos d *ℤ pos e)) ≤ℤ z)
-    (ring_from ints_ring env (var 1 ⊗ var 4 ⊗ (var 6 ⊗ var 7)) (var 3 ⊗ var 6 ⊗ (var 4 ⊗ var 5)) (by (var 4 ⊗ var 6) (var 1 ⊗ var 7) (var 3 ⊗ var 5) done) (t.cross, tt) refl)
+    (ring_from ints_ring env (var 1 ⊗ var 4 ⊗ (var 6 ⊗ var 7)) (var 3 ⊗ var 6 ⊗ (var 4 ⊗ var 5))
+    (by (var 4 ⊗ var 6) (var 1 ⊗ var 7) (var 3 ⊗ var 5) done) (t.cross, tt) refl)
     (mono_ℤ (x.numerator *ℤ pos y.denominator) (y.numerator *ℤ pos x.denominator) (d * e) h.at_most)))
 
 pub le_refl_ℚ : (x : ℚ) → x ≤ℚ x
@@ -49,7 +55,8 @@ pub le_antisymm_ℚ : (x y : ℚ) → x ≤ℚ y → y ≤ℚ x → x ≡ y
 le_antisymm_ℚ x y p q = cross_same x y (omega (arith, ints, p.at_most, q.at_most))
 
 pub le_or_lt_ℚ : (x y : ℚ) → (x ≤ℚ y) ⊎ (y <ℚ x)
-le_or_lt_ℚ x y = by_lt_z {P = (x ≤ℚ y) ⊎ (y <ℚ x)} (y.numerator *ℤ pos x.denominator) (x.numerator *ℤ pos y.denominator) (λ h. inr (record { below = h })) (λ h. inl (record { at_most = h }))
+le_or_lt_ℚ x y = by_lt_z {P = (x ≤ℚ y) ⊎ (y <ℚ x)} (y.numerator *ℤ pos x.denominator) (x.numerator *ℤ pos y.denominator)
+    (λ h. inr (record { below = h })) (λ h. inl (record { at_most = h }))
 
 pub lt_not_le_ℚ : (x y : ℚ) → x <ℚ y → y ≤ℚ x → ⊥
 lt_not_le_ℚ x y p q = omega (arith, ints, p.below, q.at_most)
@@ -68,7 +75,9 @@ cross_by_lt x y n m d e s t h = by_lt_z (n *ℤ pos e) (m *ℤ pos d) (λ l. l) 
 
 -- the order as a test
 order_from : (x y : ℚ) (r : Ordering)
-    → MatchOrdering r ((x.numerator *ℤ pos y.denominator) <ℤ (y.numerator *ℤ pos x.denominator)) (x.numerator *ℤ pos y.denominator ≡ y.numerator *ℤ pos x.denominator) ((y.numerator *ℤ pos x.denominator) <ℤ (x.numerator *ℤ pos y.denominator))
+    → MatchOrdering r ((x.numerator *ℤ pos y.denominator) <ℤ (y.numerator *ℤ pos x.denominator))
+    (x.numerator *ℤ pos y.denominator ≡ y.numerator *ℤ pos x.denominator)
+    ((y.numerator *ℤ pos x.denominator) <ℤ (x.numerator *ℤ pos y.denominator))
     → MatchOrdering r (x <ℚ y) (x ≡ y) (y <ℚ x)
 order_from x y Less h = record { below = h }
 order_from x y Equal h = cross_same x y h
@@ -81,15 +90,19 @@ order_is x y = order_from x y _ (int_ranks (x.numerator *ℤ pos y.denominator) 
 -- the difference of two is at least 0
 pub difference : (x y : ℚ) → x ≤ℚ y → whole (pos 0) ≤ℚ (y -ℚ x)
 difference x y h = le_by_cross _ _ _ _ _ _ (itself (whole (pos 0))) (add_stands _ _ _ _ _ _ (itself y) (neg_stands _ _ _ (itself x)))
-    (let t = ring ints_ring (x.numerator ∷ pos x.denominator ∷ y.numerator ∷ pos y.denominator ∷ []) ((var 2 ⊗ var 1 ⊕ minus (var 0) ⊗ var 3) ⊗ num (pos 1)) (var 2 ⊗ var 1 ⊖ var 0 ⊗ var 3) refl in
-    let z = ring ints_ring (pos (y.denominator * x.denominator) ∷ []) (num (pos 0) ⊗ var 0) (num (pos 0)) refl in omega (arith, ints, h.at_most, t, z))
+    (let t = ring ints_ring (x.numerator ∷ pos x.denominator ∷ y.numerator ∷ pos y.denominator ∷ [])
+    ((var 2 ⊗ var 1 ⊕ minus (var 0) ⊗ var 3) ⊗ num (pos 1)) (var 2 ⊗ var 1 ⊖ var 0 ⊗ var 3) refl in
+    let z = ring ints_ring (pos (y.denominator * x.denominator) ∷ []) (num (pos 0) ⊗ var 0) (num (pos 0)) refl in
+    omega (arith, ints, h.at_most, t, z))
 
 pub from_difference : (x y : ℚ) → whole (pos 0) ≤ℚ (y -ℚ x) → x ≤ℚ y
 from_difference x y h = record {
   at_most =
       (let c = cross_by_le _ _ _ _ _ _ (itself (whole (pos 0))) (add_stands _ _ _ _ _ _ (itself y) (neg_stands _ _ _ (itself x))) h in
-      let t = ring ints_ring (x.numerator ∷ pos x.denominator ∷ y.numerator ∷ pos y.denominator ∷ []) ((var 2 ⊗ var 1 ⊕ minus (var 0) ⊗ var 3) ⊗ num (pos 1)) (var 2 ⊗ var 1 ⊖ var 0 ⊗ var 3) refl in
-      let z = ring ints_ring (pos (y.denominator * x.denominator) ∷ []) (num (pos 0) ⊗ var 0) (num (pos 0)) refl in omega (arith, ints, c, t, z));
+      let t = ring ints_ring (x.numerator ∷ pos x.denominator ∷ y.numerator ∷ pos y.denominator ∷ [])
+      ((var 2 ⊗ var 1 ⊕ minus (var 0) ⊗ var 3) ⊗ num (pos 1)) (var 2 ⊗ var 1 ⊖ var 0 ⊗ var 3) refl in
+      let z = ring ints_ring (pos (y.denominator * x.denominator) ∷ []) (num (pos 0) ⊗ var 0) (num (pos 0)) refl in
+      omega (arith, ints, c, t, z));
 }
 
 natural : (z : ℤ) → pos 0 ≤ℤ z → (n : ℕ) × (z ≡ pos n)
@@ -133,14 +146,17 @@ Bound env (times c l r rest) = (whole (pos 0) ≤ℚ of env c) × (of env l ≤�
 gap_not_negative : (env : List ℚ) (bounds : Bounds) → Bound env bounds → whole (pos 0) ≤ℚ of env (gap bounds)
 gap_not_negative env end h = le_refl_ℚ (whole (pos 0))
 gap_not_negative env (also l r rest) h = add_not_negative _ _ (difference _ _ h.0) (gap_not_negative env rest h.1)
-gap_not_negative env (times c l r rest) h = add_not_negative _ _ (mul_not_negative _ _ h.0 (difference _ _ h.1)) (gap_not_negative env rest h.2)
+gap_not_negative env (times c l r rest) h =
+    add_not_negative _ _ (mul_not_negative _ _ h.0 (difference _ _ h.1)) (gap_not_negative env rest h.2)
 
 pub le_from : (env : List ℚ) (a b : Expr) (bounds : Bounds) → Bound env bounds → normal (b ⊖ a) ≡ normal (gap bounds) → of env a ≤ℚ of env b
 le_from env a b bounds h n =
-    from_difference (of env a) (of env b) (subst (λ (z : ℚ). whole (pos 0) ≤ℚ z) (sym (ring fractions env (b ⊖ a) (gap bounds) n)) (gap_not_negative env bounds h))
+    from_difference (of env a) (of env b)
+    (subst (λ (z : ℚ). whole (pos 0) ≤ℚ z) (sym (ring fractions env (b ⊖ a) (gap bounds) n)) (gap_not_negative env bounds h))
 
--- the same from one l < r and others
-pub lt_from : (env : List ℚ) (a b l r : Expr) (bounds : Bounds) → of env l <ℚ of env r → Bound env bounds → normal (b ⊖ a) ≡ normal ((r ⊖ l) ⊕ gap bounds) → of env a <ℚ of env b
+-- a < b where l < r is known, and b - a is r - l and what the bounds give
+pub lt_from : (env : List ℚ) (a b l r : Expr) (bounds : Bounds) → of env l <ℚ of env r → Bound env bounds
+    → normal (b ⊖ a) ≡ normal ((r ⊖ l) ⊕ gap bounds) → of env a <ℚ of env b
 lt_from env a b l r bounds s h n =
     lt_of_not_le_ℚ (of env a) (of env b) (λ t. lt_not_le_ℚ (of env l) (of env r) s
     (from_difference (of env r) (of env l) (subst (λ (z : ℚ). whole (pos 0) ≤ℚ z)
@@ -194,7 +210,8 @@ mul_above_zero x y p q =
 inverse_of : (n : ℤ) (d : ℕ) → 0 < d → pos 0 <ℤ n → whole (pos 0) <ℚ ratio (pos d) n
 unfolding ratio
 inverse_of (pos zero) d p h = absurd h.lt
-inverse_of (pos (suc n)) d p h = lt_by_cross _ _ _ _ _ _ (itself (whole (pos 0))) (over_stands (pos d) (suc n) (omega arith)) (omega (arith, ints))
+inverse_of (pos (suc n)) d p h =
+    lt_by_cross _ _ _ _ _ _ (itself (whole (pos 0))) (over_stands (pos d) (suc n) (omega arith)) (omega (arith, ints))
 inverse_of (negsuc n) d p h = absurd h.lt
 
 pub inverse_above_zero : (x : ℚ) → whole (pos 0) <ℚ x → whole (pos 0) <ℚ inverse x
@@ -230,8 +247,10 @@ most_false x y h = record { at_most = omega (arith, ints, h) }
 
 pub min_cases : (P : ℚ → Type 0) (x y : ℚ) → (x ≤ℚ y → P x) → (y ≤ℚ x → P y) → P (min_ℚ x y)
 unfolding min_ℚ
-min_cases P x y f g = (elim (is_at_most x y) as (λ b. is_at_most x y ≡ b → P (if b then x else y)) [ true ↦ λ e. f (most_true x y e) | false ↦ λ e. g (most_false x y e) ]) refl
+min_cases P x y f g = (elim (is_at_most x y) as
+    (λ b. is_at_most x y ≡ b → P (if b then x else y)) [ true ↦ λ e. f (most_true x y e) | false ↦ λ e. g (most_false x y e) ]) refl
 
 pub max_cases : (P : ℚ → Type 0) (x y : ℚ) → (x ≤ℚ y → P y) → (y ≤ℚ x → P x) → P (max_ℚ x y)
 unfolding max_ℚ
-max_cases P x y f g = (elim (is_at_most x y) as (λ b. is_at_most x y ≡ b → P (if b then y else x)) [ true ↦ λ e. f (most_true x y e) | false ↦ λ e. g (most_false x y e) ]) refl
+max_cases P x y f g = (elim (is_at_most x y) as
+    (λ b. is_at_most x y ≡ b → P (if b then y else x)) [ true ↦ λ e. f (most_true x y e) | false ↦ λ e. g (most_false x y e) ]) refl

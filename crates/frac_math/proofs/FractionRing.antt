@@ -33,11 +33,17 @@ pub denominator_positive : (x : ℚ) → 0 < x.denominator
 denominator_positive x = lowest_positive x.numerator x.denominator x.lowest
 
 pub same_fields : (x y : ℚ) → x.numerator ≡ y.numerator → x.denominator ≡ y.denominator → x ≡ y
-same_fields x y p q = λ i. record { numerator = p i; denominator = q i; lowest = is_prop→PathP (λ j. T (is_lowest (p j) (q j))) (λ j. T_prop (is_lowest (p j) (q j))) x.lowest y.lowest i }
+same_fields x y p q = λ i. record {
+  numerator = p i;
+  denominator = q i;
+  lowest =
+      is_prop→PathP (λ j. T (is_lowest (p j) (q j))) (λ j. T_prop (is_lowest (p j) (q j))) x.lowest y.lowest i;
+}
 
 pub cancel_ℤ : (a b : ℤ) (c : ℕ) → 0 < c → a *ℤ pos c ≡ b *ℤ pos c → a ≡ b
 cancel_ℤ a b c h e =
-    same_in a b (eq_of_mul-eq-mul_right c h (up a + down b) (up b + down a) (omega (arith, same_out (a *ℤ pos c) (b *ℤ pos c) e, product_is a (pos c), product_is b (pos c))))
+    same_in a b (eq_of_mul-eq-mul_right c h (up a + down b) (up b + down a)
+    (omega (arith, same_out (a *ℤ pos c) (b *ℤ pos c) e, product_is a (pos c), product_is b (pos c))))
 
 part_mul_ℕ : (a d g : ℕ) → a / g * g ≡ a → d / g * g ≡ d → a / g * d ≡ a * (d / g)
 part_mul_ℕ a d g p q = omega (arith, ap (λ x. a / g * x) q, ap (λ x. x * (d / g)) p)
@@ -51,7 +57,12 @@ part_mul (negsuc a) d g p q =
 pub over_stands : (n : ℤ) (d : ℕ) → 0 < d → Stands (over n d) n d
 unfolding over
 over_stands n zero h = absurd (omega arith)
-over_stands n (suc d) h = record { positive = h; cross = part_mul n (suc d) (gcd (nat_abs n) (suc d)) (div-mul_cancel (gcd (nat_abs n) (suc d)) (gcd-is (nat_abs n) (suc d)).0) (div-mul_cancel (gcd (nat_abs n) (suc d)) (gcd-is (nat_abs n) (suc d)).1) }
+over_stands n (suc d) h = record {
+  positive = h;
+  cross =
+      part_mul n (suc d) (gcd (nat_abs n) (suc d)) (div-mul_cancel (gcd (nat_abs n) (suc d)) (gcd-is (nat_abs n) (suc d)).0)
+      (div-mul_cancel (gcd (nat_abs n) (suc d)) (gcd-is (nat_abs n) (suc d)).1);
+}
 
 pub itself : (x : ℚ) → Stands x x.numerator x.denominator
 itself x = record { positive = denominator_positive x; cross = refl }
@@ -63,17 +74,21 @@ pub cross_same : (x y : ℚ) → x.numerator *ℤ pos y.denominator ≡ y.numera
 cross_same x y e =
     let p = denominator_positive x in
     let q = denominator_positive y in
-    let dens : x.denominator ≡ y.denominator = same_pair (nat_abs x.numerator) x.denominator (nat_abs y.numerator) y.denominator p q (lowest_one x.numerator x.denominator x.lowest) (lowest_one y.numerator y.denominator y.lowest)
+    let dens : x.denominator ≡ y.denominator =
+    same_pair (nat_abs x.numerator) x.denominator (nat_abs y.numerator) y.denominator p q
+    (lowest_one x.numerator x.denominator x.lowest) (lowest_one y.numerator y.denominator y.lowest)
     (sym (unsigned_abs-mul x.numerator (pos y.denominator)) ∙ ap nat_abs e ∙ unsigned_abs-mul y.numerator (pos x.denominator)) in
     same_fields x y (cancel_ℤ x.numerator y.numerator y.denominator q (e ∙ ap (λ d. y.numerator *ℤ pos d) dens)) dens
 
 -- two fractions are the same exactly where their cross products are
 pub same : (x y : ℚ) (n m : ℤ) (d e : ℕ) → Stands x n d → Stands y m e → n *ℤ pos e ≡ m *ℤ pos d → x ≡ y
 same x y n m d e s t h =
-    cross_same x y (cancel_ℤ (x.numerator *ℤ pos y.denominator) (y.numerator *ℤ pos x.denominator) (d * e) (product_positive d e s.positive t.positive)
+    cross_same x y (cancel_ℤ (x.numerator *ℤ pos y.denominator) (y.numerator *ℤ pos x.denominator) (d * e)
+    (product_positive d e s.positive t.positive)
     (ring_from ints_ring (x.numerator ∷ y.numerator ∷ n ∷ m ∷ pos x.denominator ∷ pos y.denominator ∷ pos d ∷ pos e ∷ [])
     (var 0 ⊗ var 5 ⊗ (var 6 ⊗ var 7)) (var 1 ⊗ var 4 ⊗ (var 6 ⊗ var 7))
-    (by (var 5 ⊗ var 7) (var 0 ⊗ var 6) (var 2 ⊗ var 4) (by (minus (var 4 ⊗ var 6)) (var 1 ⊗ var 7) (var 3 ⊗ var 5) (by (var 4 ⊗ var 5) (var 2 ⊗ var 7) (var 3 ⊗ var 6) done)))
+    (by (var 5 ⊗ var 7) (var 0 ⊗ var 6) (var 2 ⊗ var 4)
+    (by (minus (var 4 ⊗ var 6)) (var 1 ⊗ var 7) (var 3 ⊗ var 5) (by (var 4 ⊗ var 5) (var 2 ⊗ var 7) (var 3 ⊗ var 6) done)))
     (s.cross, (t.cross, (h, tt))) refl))
 
 pub change : (x : ℚ) (n m : ℤ) (d e : ℕ) → Stands x n d → 0 < e → n *ℤ pos e ≡ m *ℤ pos d → Stands x m e
@@ -94,7 +109,8 @@ same_numerator x n m d s t = cancel_ℤ n m x.denominator (denominator_positive 
 pub add_stands : (x y : ℚ) (n m : ℤ) (d e : ℕ) → Stands x n d → Stands y m e → Stands (x +ℚ y) (n *ℤ pos e +ℤ m *ℤ pos d) (d * e)
 unfolding ◌+ℚ◌
 add_stands x y n m d e s t =
-    change (x +ℚ y) _ _ _ _ (over_stands (x.numerator *ℤ pos y.denominator +ℤ y.numerator *ℤ pos x.denominator) (x.denominator * y.denominator) (product_positive x.denominator y.denominator (denominator_positive x) (denominator_positive y)))
+    change (x +ℚ y) _ _ _ _ (over_stands (x.numerator *ℤ pos y.denominator +ℤ y.numerator *ℤ pos x.denominator)
+    (x.denominator * y.denominator) (product_positive x.denominator y.denominator (denominator_positive x) (denominator_positive y)))
     (product_positive d e s.positive t.positive)
     (ring_from ints_ring (x.numerator ∷ y.numerator ∷ n ∷ m ∷ pos x.denominator ∷ pos y.denominator ∷ pos d ∷ pos e ∷ [])
     ((var 0 ⊗ var 5 ⊕ var 1 ⊗ var 4) ⊗ (var 6 ⊗ var 7)) ((var 2 ⊗ var 7 ⊕ var 3 ⊗ var 6) ⊗ (var 4 ⊗ var 5))
@@ -104,7 +120,8 @@ add_stands x y n m d e s t =
 pub mul_stands : (x y : ℚ) (n m : ℤ) (d e : ℕ) → Stands x n d → Stands y m e → Stands (x *ℚ y) (n *ℤ m) (d * e)
 unfolding ◌*ℚ◌
 mul_stands x y n m d e s t =
-    change (x *ℚ y) _ _ _ _ (over_stands (x.numerator *ℤ y.numerator) (x.denominator * y.denominator) (product_positive x.denominator y.denominator (denominator_positive x) (denominator_positive y)))
+    change (x *ℚ y) _ _ _ _ (over_stands (x.numerator *ℤ y.numerator) (x.denominator * y.denominator)
+    (product_positive x.denominator y.denominator (denominator_positive x) (denominator_positive y)))
     (product_positive d e s.positive t.positive)
     (ring_from ints_ring (x.numerator ∷ y.numerator ∷ n ∷ m ∷ pos x.denominator ∷ pos y.denominator ∷ pos d ∷ pos e ∷ [])
     (var 0 ⊗ var 1 ⊗ (var 6 ⊗ var 7)) (var 2 ⊗ var 3 ⊗ (var 4 ⊗ var 5))
@@ -115,33 +132,42 @@ pub neg_stands : (x : ℚ) (n : ℤ) (d : ℕ) → Stands x n d → Stands (neg_
 unfolding neg_ℚ
 neg_stands x n d s =
     change (neg_ℚ x) _ _ _ _ (over_stands (neg_ℤ x.numerator) x.denominator (denominator_positive x)) s.positive
-    (ring_from ints_ring (x.numerator ∷ n ∷ pos x.denominator ∷ pos d ∷ []) (minus (var 0) ⊗ var 3) (minus (var 1) ⊗ var 2) (by (num (negsuc 0)) (var 0 ⊗ var 3) (var 1 ⊗ var 2) done) (s.cross, tt) refl)
+    (ring_from ints_ring (x.numerator ∷ n ∷ pos x.denominator ∷ pos d ∷ []) (minus (var 0) ⊗ var 3) (minus (var 1) ⊗ var 2)
+    (by (num (negsuc 0)) (var 0 ⊗ var 3) (var 1 ⊗ var 2) done) (s.cross, tt) refl)
 
 -- ---- the fractions are a ring
 pub add_assoc : (x y z : ℚ) → (x +ℚ y) +ℚ z ≡ x +ℚ (y +ℚ z)
 add_assoc x y z =
-    same _ _ _ _ _ _ (add_stands _ _ _ _ _ _ (add_stands _ _ _ _ _ _ (itself x) (itself y)) (itself z)) (add_stands _ _ _ _ _ _ (itself x) (add_stands _ _ _ _ _ _ (itself y) (itself z)))
-    (ring ints_ring (x.numerator ∷ pos x.denominator ∷ y.numerator ∷ pos y.denominator ∷ z.numerator ∷ pos z.denominator ∷ []) (((var 0 ⊗ var 3 ⊕ var 2 ⊗ var 1) ⊗ var 5 ⊕ var 4 ⊗ (var 1 ⊗ var 3)) ⊗ (var 1 ⊗ (var 3 ⊗ var 5))) ((var 0 ⊗ (var 3 ⊗ var 5) ⊕ (var 2 ⊗ var 5 ⊕ var 4 ⊗ var 3) ⊗ var 1) ⊗ ((var 1 ⊗ var 3) ⊗ var 5)) refl)
+    same _ _ _ _ _ _ (add_stands _ _ _ _ _ _ (add_stands _ _ _ _ _ _ (itself x) (itself y)) (itself z))
+    (add_stands _ _ _ _ _ _ (itself x) (add_stands _ _ _ _ _ _ (itself y) (itself z)))
+    (ring ints_ring (x.numerator ∷ pos x.denominator ∷ y.numerator ∷ pos y.denominator ∷ z.numerator ∷ pos z.denominator ∷ [])
+    (((var 0 ⊗ var 3 ⊕ var 2 ⊗ var 1) ⊗ var 5 ⊕ var 4 ⊗ (var 1 ⊗ var 3)) ⊗ (var 1 ⊗ (var 3 ⊗ var 5)))
+    ((var 0 ⊗ (var 3 ⊗ var 5) ⊕ (var 2 ⊗ var 5 ⊕ var 4 ⊗ var 3) ⊗ var 1) ⊗ ((var 1 ⊗ var 3) ⊗ var 5)) refl)
 
 pub add_comm : (x y : ℚ) → x +ℚ y ≡ y +ℚ x
 add_comm x y =
     same _ _ _ _ _ _ (add_stands _ _ _ _ _ _ (itself x) (itself y)) (add_stands _ _ _ _ _ _ (itself y) (itself x))
-    (ring ints_ring (x.numerator ∷ pos x.denominator ∷ y.numerator ∷ pos y.denominator ∷ []) ((var 0 ⊗ var 3 ⊕ var 2 ⊗ var 1) ⊗ (var 3 ⊗ var 1)) ((var 2 ⊗ var 1 ⊕ var 0 ⊗ var 3) ⊗ (var 1 ⊗ var 3)) refl)
+    (ring ints_ring (x.numerator ∷ pos x.denominator ∷ y.numerator ∷ pos y.denominator ∷ [])
+    ((var 0 ⊗ var 3 ⊕ var 2 ⊗ var 1) ⊗ (var 3 ⊗ var 1)) ((var 2 ⊗ var 1 ⊕ var 0 ⊗ var 3) ⊗ (var 1 ⊗ var 3)) refl)
 
 pub add-zero : (x : ℚ) → x +ℚ whole (pos 0) ≡ x
 add-zero x =
     same _ _ _ _ _ _ (add_stands _ _ _ _ _ _ (itself x) (itself (whole (pos 0)))) (itself x)
-    (ring ints_ring (x.numerator ∷ pos x.denominator ∷ []) ((var 0 ⊗ num (pos 1) ⊕ num (pos 0) ⊗ var 1) ⊗ var 1) (var 0 ⊗ (var 1 ⊗ num (pos 1))) refl)
+    (ring ints_ring (x.numerator ∷ pos x.denominator ∷ []) ((var 0 ⊗ num (pos 1) ⊕ num (pos 0) ⊗ var 1) ⊗ var 1)
+    (var 0 ⊗ (var 1 ⊗ num (pos 1))) refl)
 
 pub mul_assoc : (x y z : ℚ) → (x *ℚ y) *ℚ z ≡ x *ℚ (y *ℚ z)
 mul_assoc x y z =
-    same _ _ _ _ _ _ (mul_stands _ _ _ _ _ _ (mul_stands _ _ _ _ _ _ (itself x) (itself y)) (itself z)) (mul_stands _ _ _ _ _ _ (itself x) (mul_stands _ _ _ _ _ _ (itself y) (itself z)))
-    (ring ints_ring (x.numerator ∷ pos x.denominator ∷ y.numerator ∷ pos y.denominator ∷ z.numerator ∷ pos z.denominator ∷ []) (((var 0 ⊗ var 2) ⊗ var 4) ⊗ (var 1 ⊗ (var 3 ⊗ var 5))) ((var 0 ⊗ (var 2 ⊗ var 4)) ⊗ ((var 1 ⊗ var 3) ⊗ var 5)) refl)
+    same _ _ _ _ _ _ (mul_stands _ _ _ _ _ _ (mul_stands _ _ _ _ _ _ (itself x) (itself y)) (itself z))
+    (mul_stands _ _ _ _ _ _ (itself x) (mul_stands _ _ _ _ _ _ (itself y) (itself z)))
+    (ring ints_ring (x.numerator ∷ pos x.denominator ∷ y.numerator ∷ pos y.denominator ∷ z.numerator ∷ pos z.denominator ∷ [])
+    (((var 0 ⊗ var 2) ⊗ var 4) ⊗ (var 1 ⊗ (var 3 ⊗ var 5))) ((var 0 ⊗ (var 2 ⊗ var 4)) ⊗ ((var 1 ⊗ var 3) ⊗ var 5)) refl)
 
 pub mul_comm : (x y : ℚ) → x *ℚ y ≡ y *ℚ x
 mul_comm x y =
     same _ _ _ _ _ _ (mul_stands _ _ _ _ _ _ (itself x) (itself y)) (mul_stands _ _ _ _ _ _ (itself y) (itself x))
-    (ring ints_ring (x.numerator ∷ pos x.denominator ∷ y.numerator ∷ pos y.denominator ∷ []) ((var 0 ⊗ var 2) ⊗ (var 3 ⊗ var 1)) ((var 2 ⊗ var 0) ⊗ (var 1 ⊗ var 3)) refl)
+    (ring ints_ring (x.numerator ∷ pos x.denominator ∷ y.numerator ∷ pos y.denominator ∷ []) ((var 0 ⊗ var 2) ⊗ (var 3 ⊗ var 1))
+    ((var 2 ⊗ var 0) ⊗ (var 1 ⊗ var 3)) refl)
 
 pub mul-one : (x : ℚ) → x *ℚ whole (pos 1) ≡ x
 mul-one x =
@@ -155,8 +181,11 @@ mul-zero x =
 
 pub mul-add : (x y z : ℚ) → x *ℚ (y +ℚ z) ≡ (x *ℚ y) +ℚ (x *ℚ z)
 mul-add x y z =
-    same _ _ _ _ _ _ (mul_stands _ _ _ _ _ _ (itself x) (add_stands _ _ _ _ _ _ (itself y) (itself z))) (add_stands _ _ _ _ _ _ (mul_stands _ _ _ _ _ _ (itself x) (itself y)) (mul_stands _ _ _ _ _ _ (itself x) (itself z)))
-    (ring ints_ring (x.numerator ∷ pos x.denominator ∷ y.numerator ∷ pos y.denominator ∷ z.numerator ∷ pos z.denominator ∷ []) ((var 0 ⊗ (var 2 ⊗ var 5 ⊕ var 4 ⊗ var 3)) ⊗ ((var 1 ⊗ var 3) ⊗ (var 1 ⊗ var 5))) (((var 0 ⊗ var 2) ⊗ (var 1 ⊗ var 5) ⊕ (var 0 ⊗ var 4) ⊗ (var 1 ⊗ var 3)) ⊗ (var 1 ⊗ (var 3 ⊗ var 5))) refl)
+    same _ _ _ _ _ _ (mul_stands _ _ _ _ _ _ (itself x) (add_stands _ _ _ _ _ _ (itself y) (itself z)))
+    (add_stands _ _ _ _ _ _ (mul_stands _ _ _ _ _ _ (itself x) (itself y)) (mul_stands _ _ _ _ _ _ (itself x) (itself z)))
+    (ring ints_ring (x.numerator ∷ pos x.denominator ∷ y.numerator ∷ pos y.denominator ∷ z.numerator ∷ pos z.denominator ∷ [])
+    ((var 0 ⊗ (var 2 ⊗ var 5 ⊕ var 4 ⊗ var 3)) ⊗ ((var 1 ⊗ var 3) ⊗ (var 1 ⊗ var 5)))
+    (((var 0 ⊗ var 2) ⊗ (var 1 ⊗ var 5) ⊕ (var 0 ⊗ var 4) ⊗ (var 1 ⊗ var 3)) ⊗ (var 1 ⊗ (var 3 ⊗ var 5))) refl)
 
 pub neg-is : (x : ℚ) → neg_ℚ x ≡ whole (negsuc 0) *ℚ x
 neg-is x =
@@ -232,31 +261,38 @@ denominator_least x n d s = le_of_dvd s.positive (denominator_divides x n d s)
 
 pub numerator_least : (x : ℚ) (n : ℤ) (d : ℕ) → Stands x n d → nat_abs x.numerator ≤ nat_abs n
 numerator_least x n d s =
-    let part : nat_abs x.numerator * x.denominator ≤ nat_abs n * x.denominator = omega (arith, sizes x n d s, mul-le-mul_left (nat_abs x.numerator) (denominator_least x n d s)) in
+    let part : nat_abs x.numerator * x.denominator ≤ nat_abs n * x.denominator =
+    omega (arith, sizes x n d s, mul-le-mul_left (nat_abs x.numerator) (denominator_least x n d s)) in
     le_of_mul-le-mul_right part (denominator_positive x)
 
 -- a quotient by what is not 0
 pub mul-div : (x y : ℚ) → (y.numerator ≡ pos 0 → ⊥) → (x *ℚ y) /ℚ y ≡ x
 mul-div x y h =
-    ring_from fractions (x ∷ y ∷ inverse y ∷ []) (var 0 ⊗ var 1 ⊗ var 2) (var 0) (by (var 0) (var 1 ⊗ var 2) (num (pos 1)) done) (mul-inverse y h, tt) refl
+    ring_from fractions (x ∷ y ∷ inverse y ∷ []) (var 0 ⊗ var 1 ⊗ var 2) (var 0) (by (var 0) (var 1 ⊗ var 2) (num (pos 1)) done)
+    (mul-inverse y h, tt) refl
 
 pub div-mul : (x y : ℚ) → (y.numerator ≡ pos 0 → ⊥) → (x /ℚ y) *ℚ y ≡ x
 div-mul x y h =
-    ring_from fractions (x ∷ y ∷ inverse y ∷ []) (var 0 ⊗ var 2 ⊗ var 1) (var 0) (by (var 0) (var 1 ⊗ var 2) (num (pos 1)) done) (mul-inverse y h, tt) refl
+    ring_from fractions (x ∷ y ∷ inverse y ∷ []) (var 0 ⊗ var 2 ⊗ var 1) (var 0) (by (var 0) (var 1 ⊗ var 2) (num (pos 1)) done)
+    (mul-inverse y h, tt) refl
 
 -- ---- over one denominator
 pub common_add : (x y : ℚ) (n m : ℤ) (d : ℕ) → Stands x n d → Stands y m d → Stands (x +ℚ y) (n +ℤ m) d
 common_add x y n m d s t =
-    change _ _ _ _ _ (add_stands _ _ _ _ _ _ s t) s.positive (ring ints_ring (n ∷ m ∷ pos d ∷ []) ((var 0 ⊗ var 2 ⊕ var 1 ⊗ var 2) ⊗ var 2) ((var 0 ⊕ var 1) ⊗ (var 2 ⊗ var 2)) refl)
+    change _ _ _ _ _ (add_stands _ _ _ _ _ _ s t) s.positive
+    (ring ints_ring (n ∷ m ∷ pos d ∷ []) ((var 0 ⊗ var 2 ⊕ var 1 ⊗ var 2) ⊗ var 2) ((var 0 ⊕ var 1) ⊗ (var 2 ⊗ var 2)) refl)
 
 pub common_mul : (x : ℚ) (n z : ℤ) (d : ℕ) → Stands x n d → Stands (x *ℚ whole z) (n *ℤ z) d
 common_mul x n z d s =
-    change _ _ _ _ _ (mul_stands _ _ _ _ _ _ s (itself (whole z))) s.positive (ring ints_ring (n ∷ z ∷ pos d ∷ []) (var 0 ⊗ var 1 ⊗ var 2) (var 0 ⊗ var 1 ⊗ (var 2 ⊗ num (pos 1))) refl)
+    change _ _ _ _ _ (mul_stands _ _ _ _ _ _ s (itself (whole z))) s.positive
+    (ring ints_ring (n ∷ z ∷ pos d ∷ []) (var 0 ⊗ var 1 ⊗ var 2) (var 0 ⊗ var 1 ⊗ (var 2 ⊗ num (pos 1))) refl)
 
 -- ---- the test of equality
 pub equal_is : (x y : ℚ) → equal_ℚ x y ≡ true → x ≡ y
 unfolding equal_ℚ
-equal_is x y h = same_fields x y ((Decides-int_eq x.numerator y.numerator).0 (and_left (int_eq x.numerator y.numerator) (eqb x.denominator y.denominator) h)) (eqb-true x.denominator y.denominator (and_right (int_eq x.numerator y.numerator) (eqb x.denominator y.denominator) h))
+equal_is x y h = same_fields x y
+    ((Decides-int_eq x.numerator y.numerator).0 (and_left (int_eq x.numerator y.numerator) (eqb x.denominator y.denominator) h))
+    (eqb-true x.denominator y.denominator (and_right (int_eq x.numerator y.numerator) (eqb x.denominator y.denominator) h))
 
 pub is_equal : (x y : ℚ) → x ≡ y → equal_ℚ x y ≡ true
 is_equal x y e = subst (λ (z : ℚ). equal_ℚ x z ≡ true) e (equal_equivalence.refl x)

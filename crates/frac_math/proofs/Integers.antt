@@ -6,11 +6,28 @@ use Rattle.frac_math.proofs.Ring.{Ring, var, ◌⊕◌, ◌⊗◌, ring}
 
 pub mul_assoc_ℤ : (a b c : ℤ) → (a *ℤ b) *ℤ c ≡ a *ℤ (b *ℤ c)
 mul_assoc_ℤ a b c =
-    same_in _ _ (rw ((product_is (a *ℤ b) c).0, (product_is (a *ℤ b) c).1, (product_is a (b *ℤ c)).0, (product_is a (b *ℤ c)).1, (product_is a b).0, (product_is a b).1, (product_is b c).0, (product_is b c).1) (omega arith))
+    same_in _ _ (rw (
+      (product_is (a *ℤ b) c).0,
+      (product_is (a *ℤ b) c).1,
+      (product_is a (b *ℤ c)).0,
+      (product_is a (b *ℤ c)).1,
+      (product_is a b).0,
+      (product_is a b).1,
+      (product_is b c).0,
+      (product_is b c).1,
+    ) (omega arith))
 
 pub mul-add_ℤ : (a b c : ℤ) → a *ℤ (b +ℤ c) ≡ a *ℤ b +ℤ a *ℤ c
 mul-add_ℤ a b c =
-    same_in _ _ (omega (arith, product_is a (b +ℤ c), product_is a b, product_is a c, sum_is_lem (a *ℤ b) (a *ℤ c), ap (λ x. up a * x) (sum_is_lem b c), ap (λ x. down a * x) (sum_is_lem b c)))
+    same_in _ _ (omega (
+      arith,
+      product_is a (b +ℤ c),
+      product_is a b,
+      product_is a c,
+      sum_is_lem (a *ℤ b) (a *ℤ c),
+      ap (λ x. up a * x) (sum_is_lem b c),
+      ap (λ x. down a * x) (sum_is_lem b c),
+    ))
 
 pub neg-is_ℤ : (a : ℤ) → neg_ℤ a ≡ negsuc 0 *ℤ a
 neg-is_ℤ a = same_in _ _ (omega (arith, neg_is a, product_is (negsuc 0) a))
@@ -38,7 +55,8 @@ ints_ring = record {
   of-mul = λ a b. refl;
 }
 
-pub cross : (a c e b d f : ℤ) → ((a *ℤ d +ℤ c *ℤ b) *ℤ f +ℤ e *ℤ (b *ℤ d)) *ℤ (b *ℤ (d *ℤ f)) ≡ (a *ℤ (d *ℤ f) +ℤ (c *ℤ f +ℤ e *ℤ d) *ℤ b) *ℤ (b *ℤ d *ℤ f)
+pub cross : (a c e b d f : ℤ) → ((a *ℤ d +ℤ c *ℤ b) *ℤ f +ℤ e *ℤ (b *ℤ d)) *ℤ (b *ℤ (d *ℤ f))
+    ≡ (a *ℤ (d *ℤ f) +ℤ (c *ℤ f +ℤ e *ℤ d) *ℤ b) *ℤ (b *ℤ d *ℤ f)
 cross a c e b d f =
     ring ints_ring (a ∷ c ∷ e ∷ b ∷ d ∷ f ∷ [])
     (((var 0 ⊗ var 4 ⊕ var 1 ⊗ var 3) ⊗ var 5 ⊕ var 2 ⊗ (var 3 ⊗ var 4)) ⊗ (var 3 ⊗ (var 4 ⊗ var 5)))

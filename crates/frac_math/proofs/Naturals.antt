@@ -8,7 +8,8 @@ use Rattle.frac_math.proofs.FractionRing.{fractions, same, itself, over_stands, 
 pub nat-sub : (a b : ℕ) → b ≤ a → nat a -ℚ nat b ≡ nat (a - b)
 nat-sub a b h =
     let e : nat a ≡ nat (a - b) +ℚ nat b = ap nat (omega arith) ∙ whole-add (pos (a - b)) (pos b) in
-    ring_from fractions (nat a ∷ nat b ∷ nat (a - b) ∷ []) (var 0 ⊖ var 1) (var 2) (by (num (pos 1)) (var 0) (var 2 ⊕ var 1) done) (e, tt) refl
+    ring_from fractions (nat a ∷ nat b ∷ nat (a - b) ∷ []) (var 0 ⊖ var 1) (var 2) (by (num (pos 1)) (var 0) (var 2 ⊕ var 1) done)
+    (e, tt) refl
 
 pub nat-mul : (x y : ℚ) (a b : ℕ) → x ≡ nat a → y ≡ nat b → x *ℚ y ≡ nat (a * b)
 nat-mul x y a b p q = rw (p, q) (sym (whole-mul (pos a) (pos b)))

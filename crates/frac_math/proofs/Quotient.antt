@@ -23,7 +23,8 @@ sign_fits d (negsuc zero) f low high = omega (arith, ints, f)
 sign_fits d (negsuc (suc n)) f low high = absurd (omega (arith, ints, low))
 
 -- a denominator times a sign, as the code has the two
-pub part_fits : (d s : ℤ) (e : ℕ) → Fits d → Fits s → d ≡ pos e → negsuc 0 ≤ℤ s → s ≤ℤ pos 1 → Fits (cast_signed w128 (cast_unsigned w128 d) *ℤ cast_signed w128 (cast_unsigned w128 s))
+pub part_fits : (d s : ℤ) (e : ℕ) → Fits d → Fits s → d ≡ pos e → negsuc 0 ≤ℤ s → s ≤ℤ pos 1
+    → Fits (cast_signed w128 (cast_unsigned w128 d) *ℤ cast_signed w128 (cast_unsigned w128 s))
 part_fits d s e f g p low high = subst Fits (sym (cast_product d s (pos e) s f g p refl)) (sign_fits e s (subst Fits p f) low high)
 
 pub numerator_is : (a d s : ℤ) → a *ℤ (d *ℤ s) ≡ a *ℤ d *ℤ s
@@ -42,11 +43,13 @@ sign_not_zero s m e h z = h (ap (cast_unsigned w128) (e ∙ ap int_signum z))
 pub sign_zero : (s m : ℤ) → Fits s → s ≡ int_signum m → cast_unsigned w128 s ≡ 0 → m ≡ pos 0
 sign_zero s m f e h = signum_zero m (sym e ∙ sym (to_z-of_z w128 s f) ∙ ap (cast_signed w128) h)
 
--- a result times such a part
+-- a result times a denominator with the sign
 pub number_is : (n d s x t : ℤ) (e : ℕ) → Fits n → Fits d → Fits s → n ≡ x → d ≡ pos e → s ≡ t → negsuc 0 ≤ℤ s → s ≤ℤ pos 1
-    → cast_signed w128 (cast_unsigned w128 n) *ℤ cast_signed w128 (cast_unsigned w128 (cast_signed w128 (cast_unsigned w128 d) *ℤ cast_signed w128 (cast_unsigned w128 s))) ≡ x *ℤ (pos e *ℤ t)
+    → cast_signed w128 (cast_unsigned w128 n) *ℤ cast_signed w128
+    (cast_unsigned w128 (cast_signed w128 (cast_unsigned w128 d) *ℤ cast_signed w128 (cast_unsigned w128 s))) ≡ x *ℤ (pos e *ℤ t)
 number_is n d s x t e f g h p q r low high =
-    cast_product n (cast_signed w128 (cast_unsigned w128 d) *ℤ cast_signed w128 (cast_unsigned w128 s)) x (pos e *ℤ t) f (part_fits d s e g h q low high) p (cast_product d s (pos e) t g h q r)
+    cast_product n (cast_signed w128 (cast_unsigned w128 d) *ℤ cast_signed w128 (cast_unsigned w128 s)) x (pos e *ℤ t) f
+    (part_fits d s e g h q low high) p (cast_product d s (pos e) t g h q r)
 
 signum-pos : (n : ℕ) → int_signum (pos (suc n)) ≡ pos 1
 signum-pos n = ap pos (omega arith)
@@ -58,9 +61,11 @@ denominator_above b (pos (suc n)) p h =
     subst (λ (s : ℤ). pos 0 <ℤ (pos b *ℤ pos (suc n) *ℤ s)) (sym (signum-pos n)) (omega (arith, ints))
 denominator_above b (negsuc n) p h =
     let t : 0 < b * suc n = mul-pos p (zero-lt-suc n) in
-    subst (λ (z : ℤ). pos 0 <ℤ z) (ring ints_ring (pos b ∷ pos (suc n) ∷ []) (var 0 ⊗ var 1) (var 0 ⊗ minus (var 1) ⊗ num (negsuc 0)) refl) (omega (arith, ints))
+    subst (λ (z : ℤ). pos 0 <ℤ z) (ring ints_ring (pos b ∷ pos (suc n) ∷ []) (var 0 ⊗ var 1) (var 0 ⊗ minus (var 1) ⊗ num (negsuc 0)) refl)
+    (omega (arith, ints))
 
-from_numbers : (x : ℚ) (c m : ℤ) (d k : ℕ) → (c ≡ pos 0 → ⊥) → 0 < k → m ≡ x.numerator *ℤ pos d *ℤ int_signum c → pos k ≡ pos x.denominator *ℤ c *ℤ int_signum c → x *ℚ ratio (pos d) c ≡ over m k
+from_numbers : (x : ℚ) (c m : ℤ) (d k : ℕ) → (c ≡ pos 0 → ⊥) → 0 < k → m ≡ x.numerator *ℤ pos d *ℤ int_signum c
+    → pos k ≡ pos x.denominator *ℤ c *ℤ int_signum c → x *ℚ ratio (pos d) c ≡ over m k
 unfolding ratio
 from_numbers x (pos zero) m d k h p e f = absurd (h refl)
 from_numbers x (pos (suc n)) m d k h p e f =
@@ -77,7 +82,8 @@ from_numbers x (negsuc n) m d k h p e f =
     (f, (e, tt)) refl)
 
 -- x / y over the numbers of its rule
-pub quotient_is : (x y : ℚ) (m : ℤ) (k : ℕ) → (y.numerator ≡ pos 0 → ⊥) → 0 < k → m ≡ x.numerator *ℤ pos y.denominator *ℤ int_signum y.numerator
+pub quotient_is : (x y : ℚ) (m : ℤ) (k : ℕ) → (y.numerator ≡ pos 0 → ⊥) → 0 < k
+    → m ≡ x.numerator *ℤ pos y.denominator *ℤ int_signum y.numerator
     → pos k ≡ pos x.denominator *ℤ y.numerator *ℤ int_signum y.numerator → x /ℚ y ≡ over m k
 unfolding inverse
 quotient_is x y m k h p e f = from_numbers x y.numerator m y.denominator k h p e f

@@ -26,7 +26,8 @@ ratio_fits n (suc d) h p q =
 
 -- what the call answers for two numbers that are known
 pub ratio_known : (r : Option ℚ) (n m e : ℤ) (d : ℕ) → FitsSigned w128 n → FitsSigned w128 e → n ≡ m → e ≡ pos d → 0 < d
-    → SomeIff r (RatioFits (cast_signed w128 (cast_unsigned w128 n)) (cast_signed w128 (cast_unsigned w128 e))) (ratio (cast_signed w128 (cast_unsigned w128 n)) (cast_signed w128 (cast_unsigned w128 e)))
+    → SomeIff r (RatioFits (cast_signed w128 (cast_unsigned w128 n)) (cast_signed w128 (cast_unsigned w128 e)))
+    (ratio (cast_signed w128 (cast_unsigned w128 n)) (cast_signed w128 (cast_unsigned w128 e)))
     → r ≡ Some (over m d)
 unfolding ratio
 ratio_known r n m e d f g p q h s =

@@ -131,7 +131,8 @@ module _ (R : Ring) where
   put_var-is : (env : List R.carrier) (x : ℕ) (n : List ℕ) → one_is env (put_var x n) ≡ R.mul (at env x) (one_is env n)
   put_var-is env x [] = refl
   put_var-is env x (y ∷ n) =
-      elim (leb x y) as (λ b. one_is env (elim b [ true ↦ x ∷ y ∷ n | false ↦ y ∷ put_var x n ]) ≡ R.mul (at env x) (R.mul (at env y) (one_is env n)))
+      elim (leb x y) as (λ b. one_is env (elim b [ true ↦ x ∷ y ∷ n | false ↦ y ∷ put_var x n ])
+      ≡ R.mul (at env x) (R.mul (at env y) (one_is env n)))
       [ true ↦ refl | false ↦ ap (R.mul (at env y)) (put_var-is env x n) ∙ mul-left (at env y) (at env x) (one_is env n) ]
 
   join-is : (env : List R.carrier) (m n : List ℕ) → one_is env (join m n) ≡ R.mul (one_is env m) (one_is env n)
@@ -147,31 +148,42 @@ module _ (R : Ring) where
       (elim (eqb x y) as (λ b. eqb x y ≡ b → elim b [ true ↦ same m n | false ↦ false ] ≡ true → one_is env (x ∷ m) ≡ one_is env (y ∷ n))
       [ true ↦ λ e p. (let i : x ≡ y = eqb-true x y e in let t = same-is env m n p in cc) | false ↦ λ e p. cc ]) refl h
 
-  put-is : (env : List R.carrier) (c : ℤ) (m : List ℕ) (p : Poly) → all_is env (put c m p) ≡ R.add (R.mul (R.of c) (one_is env m)) (all_is env p)
+  put-is : (env : List R.carrier) (c : ℤ) (m : List ℕ) (p : Poly)
+      → all_is env (put c m p) ≡ R.add (R.mul (R.of c) (one_is env m)) (all_is env p)
   put-is env c m none = refl
   put-is env c m (term d n p) =
-      (elim (same m n) as (λ b. same m n ≡ b → all_is env (elim b [ true ↦ term (c +ℤ d) n p | false ↦ elim (before m n) [ true ↦ term c m (term d n p) | false ↦ term d n (put c m p) ] ])
+      (elim (same m n) as (λ b. same m n ≡ b
+      → all_is env (elim b [
+        | true ↦ term (c +ℤ d) n p
+        | false ↦ elim
+            (before m n) [ true ↦ term c m (term d n p) | false ↦ term d n (put c m p) ]
+      ])
       ≡ R.add (R.mul (R.of c) (one_is env m)) (all_is env (term d n p))) [
         | true ↦ λ e.
             ap (λ x. R.add (R.mul x (one_is env n)) (all_is env p)) (R.of-add c d)
             ∙ ap (λ x. R.add x (all_is env p)) (add-mul (R.of c) (R.of d) (one_is env n))
             ∙ R.add_assoc (R.mul (R.of c) (one_is env n)) (R.mul (R.of d) (one_is env n)) (all_is env p)
             ∙ ap (λ x. R.add (R.mul (R.of c) x) (all_is env (term d n p))) (sym (same-is env m n e))
-        | false ↦ λ e. elim (before m n) as (λ b. all_is env (elim b [ true ↦ term c m (term d n p) | false ↦ term d n (put c m p) ]) ≡ R.add (R.mul (R.of c) (one_is env m)) (all_is env (term d n p))) [
-          | true ↦ refl
-          | false ↦ ap (R.add (R.mul (R.of d) (one_is env n))) (put-is env c m p) ∙ add-left (R.mul (R.of d) (one_is env n)) (R.mul (R.of c) (one_is env m)) (all_is env p)
-        ]
+        | false ↦ λ e. elim (before m n) as
+            (λ b. all_is env (elim b [ true ↦ term c m (term d n p) | false ↦ term d n (put c m p) ])
+            ≡ R.add (R.mul (R.of c) (one_is env m)) (all_is env (term d n p))) [
+              | true ↦ refl
+              | false ↦ ap (R.add (R.mul (R.of d) (one_is env n))) (put-is env c m p)
+                  ∙ add-left (R.mul (R.of d) (one_is env n)) (R.mul (R.of c) (one_is env m)) (all_is env p)
+            ]
       ]) refl
 
   sum_of-is : (env : List R.carrier) (p q : Poly) → all_is env (sum_of p q) ≡ R.add (all_is env p) (all_is env q)
   sum_of-is env none q = sym (zero-add (all_is env q))
   sum_of-is env (term c m p) q =
-      put-is env c m (sum_of p q) ∙ ap (R.add (R.mul (R.of c) (one_is env m))) (sum_of-is env p q) ∙ sym (R.add_assoc (R.mul (R.of c) (one_is env m)) (all_is env p) (all_is env q))
+      put-is env c m (sum_of p q) ∙ ap (R.add (R.mul (R.of c) (one_is env m))) (sum_of-is env p q)
+      ∙ sym (R.add_assoc (R.mul (R.of c) (one_is env m)) (all_is env p) (all_is env q))
 
   four : (a b c d : R.carrier) → R.mul (R.mul a b) (R.mul c d) ≡ R.mul (R.mul a c) (R.mul b d)
   four a b c d = R.mul_assoc a b (R.mul c d) ∙ ap (R.mul a) (mul-left b c d) ∙ sym (R.mul_assoc a c (R.mul b d))
 
-  times-is : (env : List R.carrier) (c : ℤ) (m : List ℕ) (p : Poly) → all_is env (times c m p) ≡ R.mul (R.mul (R.of c) (one_is env m)) (all_is env p)
+  times-is : (env : List R.carrier) (c : ℤ) (m : List ℕ) (p : Poly)
+      → all_is env (times c m p) ≡ R.mul (R.mul (R.of c) (one_is env m)) (all_is env p)
   times-is env c m none = sym (R.mul-zero (R.mul (R.of c) (one_is env m)))
   times-is env c m (term d n p) =
       put-is env (c *ℤ d) (join m n) (times c m p)
@@ -183,7 +195,8 @@ module _ (R : Ring) where
   product_of-is env none q = sym (zero-mul (all_is env q))
   product_of-is env (term c m p) q =
       sum_of-is env (times c m q) (product_of p q)
-      ∙ (let t = times-is env c m q in let r = product_of-is env p q in let a = add-mul (R.mul (R.of c) (one_is env m)) (all_is env p) (all_is env q) in cc)
+      ∙ (let t = times-is env c m q in let r = product_of-is env p q in let a =
+      add-mul (R.mul (R.of c) (one_is env m)) (all_is env p) (all_is env q) in cc)
 
   clean-is : (env : List R.carrier) (p : Poly) → all_is env (clean p) ≡ all_is env p
   clean-is env none = refl
@@ -193,12 +206,14 @@ module _ (R : Ring) where
   clean-is env (term (negsuc c) m p) = ap (R.add (R.mul (R.of (negsuc c)) (one_is env m))) (clean-is env p)
 
   poly-is : (env : List R.carrier) (e : Expr) → all_is env (poly e) ≡ value env e
-  poly-is env (var x) = R.add-zero (R.mul (R.of (pos 1)) (R.mul (at env x) (R.of (pos 1)))) ∙ one-mul (R.mul (at env x) (R.of (pos 1))) ∙ R.mul-one (at env x)
+  poly-is env (var x) = R.add-zero (R.mul (R.of (pos 1)) (R.mul (at env x) (R.of (pos 1)))) ∙ one-mul (R.mul (at env x) (R.of (pos 1)))
+      ∙ R.mul-one (at env x)
   poly-is env (num c) = R.add-zero (R.mul (R.of c) (R.of (pos 1))) ∙ R.mul-one (R.of c)
   poly-is env (e ⊕ f) = sum_of-is env (poly e) (poly f) ∙ (let p = poly-is env e in let q = poly-is env f in cc)
   poly-is env (e ⊗ f) = product_of-is env (poly e) (poly f) ∙ (let p = poly-is env e in let q = poly-is env f in cc)
   poly-is env (minus e) =
-      times-is env (negsuc 0) [] (poly e) ∙ (let p = poly-is env e in let n = R.neg_is (value env e) in let o = R.mul-one (R.of (negsuc 0)) in cc)
+      times-is env (negsuc 0) [] (poly e)
+      ∙ (let p = poly-is env e in let n = R.neg_is (value env e) in let o = R.mul-one (R.of (negsuc 0)) in cc)
 
   pub ring : (env : List R.carrier) (e f : Expr) → normal e ≡ normal f → value env e ≡ value env f
   ring env e f h =
@@ -225,7 +240,8 @@ module _ (R : Ring) where
       ∙ ap (R.add (value R env (c ⊗ (r ⊖ r)))) (parts-is env rest h.1)
       ∙ ring R (value R env c ∷ value R env r ∷ []) (var 0 ⊗ (var 1 ⊖ var 1) ⊕ num (pos 0)) (num (pos 0)) refl
 
-  pub ring_from : (env : List R.carrier) (e f : Expr) (known : Known) → Holds env known → normal (e ⊖ f) ≡ normal (parts known) → value R env e ≡ value R env f
+  pub ring_from : (env : List R.carrier) (e f : Expr) (known : Known) → Holds env known → normal (e ⊖ f) ≡ normal (parts known)
+      → value R env e ≡ value R env f
   ring_from env e f known h n =
       let zero_is = ring R env (e ⊖ f) (parts known) n ∙ parts-is env known h in
       ring R (value R env e ∷ value R env f ∷ []) (var 0) ((var 0 ⊖ var 1) ⊕ var 1) refl

@@ -13,14 +13,16 @@ pub record IsWithin (x : ℚ) : Type 0 where
   pub numerator : FitsSigned w128 x.numerator
   pub denominator : FitsSigned w128 (pos x.denominator)
 
-pub is_within : (num den : ℤ) (x : ℚ) → IsReduced num den → FitsSigned w128 num → FitsSigned w128 den → over num (unsigned_abs den) ≡ x → IsWithin x
+pub is_within : (num den : ℤ) (x : ℚ) → IsReduced num den → FitsSigned w128 num → FitsSigned w128 den → over num (unsigned_abs den) ≡ x
+    → IsWithin x
 is_within num den x lowest n d is = record {
   numerator = subst (λ z. FitsSigned w128 z) (sym (over-numerator num den lowest) ∙ ap (λ y. y.numerator) is) n;
   denominator = subst (λ z. FitsSigned w128 z) (sym (over-denominator num den lowest) ∙ ap (λ y. pos y.denominator) is) d;
 }
 
 -- a numerator whose bits are 0
-pub is_zero : (num den : ℤ) (x : ℚ) → IsReduced num den → FitsSigned w128 num → over num (unsigned_abs den) ≡ x → of_z w128 num ≡ 0 → x ≡ whole (pos 0)
+pub is_zero : (num den : ℤ) (x : ℚ) → IsReduced num den → FitsSigned w128 num → over num (unsigned_abs den) ≡ x → of_z w128 num ≡ 0
+    → x ≡ whole (pos 0)
 is_zero num den x lowest n is bits =
     let none : x.numerator ≡ pos 0 =
     sym (ap (λ y. y.numerator) is) ∙ over-numerator num den lowest ∙ sym (to_z-of_z w128 num n) ∙ ap (to_z w128) bits in
@@ -63,17 +65,27 @@ other_sum_fits x within = record {
 }
 
 pub zero_plus : (x y : ℚ) → IsWithin y → x ≡ whole (pos 0) → SumFits x y × (y ≡ x +ℚ y)
-zero_plus x y within none = subst (λ w. SumFits w y × (y ≡ w +ℚ y)) (sym none) (other_sum_fits y within, sym (add_comm (whole (pos 0)) y ∙ add-zero y))
+zero_plus x y within none = subst (λ w. SumFits w y × (y ≡ w +ℚ y)) (sym none)
+    (other_sum_fits y within, sym (add_comm (whole (pos 0)) y ∙ add-zero y))
 
 -- x * 0 and 0 * x are 0
 product_fits : (x : ℚ) → IsWithin x → ProductFits x (whole (pos 0))
-product_fits x within = record { numerator = fits _ _ (times_zero x.numerator) zero_fits; denominator = fits _ _ (times_one (pos x.denominator)) within.denominator }
+product_fits x within = record {
+  numerator = fits _ _ (times_zero x.numerator) zero_fits;
+  denominator =
+      fits _ _ (times_one (pos x.denominator)) within.denominator;
+}
 
 pub times_nothing : (x y : ℚ) → IsWithin x → y ≡ whole (pos 0) → ProductFits x y × (y ≡ x *ℚ y)
 times_nothing x y within none = subst (λ w. ProductFits x w × (w ≡ x *ℚ w)) (sym none) (product_fits x within, sym (mul-zero x))
 
 other_product_fits : (x : ℚ) → IsWithin x → ProductFits (whole (pos 0)) x
-other_product_fits x within = record { numerator = fits _ _ (zero_times x.numerator) zero_fits; denominator = fits _ _ (omega (arith, ints)) within.denominator }
+other_product_fits x within = record {
+  numerator = fits _ _ (zero_times x.numerator) zero_fits;
+  denominator =
+      fits _ _ (omega (arith, ints)) within.denominator;
+}
 
 pub nothing_times : (x y : ℚ) → IsWithin y → x ≡ whole (pos 0) → ProductFits x y × (x ≡ x *ℚ y)
-nothing_times x y within none = subst (λ w. ProductFits w y × (w ≡ w *ℚ y)) (sym none) (other_product_fits y within, sym (mul_comm (whole (pos 0)) y ∙ mul-zero y))
+nothing_times x y within none =
+    subst (λ w. ProductFits w y × (w ≡ w *ℚ y)) (sym none) (other_product_fits y within, sym (mul_comm (whole (pos 0)) y ∙ mul-zero y))

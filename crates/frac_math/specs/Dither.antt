@@ -1,4 +1,6 @@
--- The ordered dither by the index matrix of 2 by 2, applied k times: at each place a fraction between 0 and 1.
+-- The ordered dither: for each pixel a fraction between 0 and 1, by Bayer's index matrix of 2 by 2, applied k times (FFmpeg,
+-- libswscale/format.c,
+-- generate_bayer_matrix).
 use Rattle.std.specs.Prelude.{ℕ, zero, suc, ◌+◌, ◌*◌, ◌/◌, ◌%◌, ◌^◌, pos}
 use Rattle.frac_math.specs.Fraction.{ℚ, nat, over, ◌+ℚ◌}
 

@@ -7,6 +7,7 @@ use Rattle.frac_math.specs.Gcd.{gcd, is_lowest}
 use Rattle.std.proofs.Math.Nat.{zero-lt-suc}
 use Rattle.frac_math.specs.LowestTerms.{whole_lowest, quotients_lowest}
 
+-- a fraction: its numerator with the sign, and its denominator, in lowest terms
 pub record ℚ : Type 0 where
   pub numerator : ℤ
   pub denominator : ℕ
@@ -16,6 +17,7 @@ pub record ℚ : Type 0 where
 abbrev pub whole : ℤ → ℚ
 whole n = record { numerator = n; denominator = 1; lowest = whole_lowest n }
 
+-- n/1 of a natural number
 abbrev pub nat : ℕ → ℚ
 nat n = whole (pos n)
 
@@ -42,9 +44,11 @@ x +ℚ y = over (x.numerator *ℤ pos y.denominator +ℤ y.numerator *ℤ pos x.
 unfoldable pub ◌*ℚ◌ : ℚ → ℚ → ℚ
 x *ℚ y = over (x.numerator *ℤ y.numerator) (x.denominator * y.denominator)
 
+-- -(a/b) = (-a)/b
 unfoldable pub neg_ℚ : ℚ → ℚ
 neg_ℚ x = over (neg_ℤ x.numerator) x.denominator
 
+-- x - y = x + (-y)
 abbrev pub ◌-ℚ◌ : ℚ → ℚ → ℚ
 x -ℚ y = x +ℚ neg_ℚ y
 
@@ -52,30 +56,35 @@ x -ℚ y = x +ℚ neg_ℚ y
 unfoldable pub inverse : ℚ → ℚ
 inverse x = ratio (pos x.denominator) x.numerator
 
+-- x / y = x * (1 / y)
 abbrev pub ◌/ℚ◌ : ℚ → ℚ → ℚ
 x /ℚ y = x *ℚ inverse y
 
--- a/b is at most c/d, or below it, where a d is at most c b, or below it
+-- a/b is at most c/d where a d is at most c b
 pub record ◌≤ℚ◌ (x y : ℚ) : Type 0 where
   pub at_most : (x.numerator *ℤ pos y.denominator) ≤ℤ (y.numerator *ℤ pos x.denominator)
 
+-- a/b is below c/d where a d is below c b
 pub record ◌<ℚ◌ (x y : ℚ) : Type 0 where
   pub below : (x.numerator *ℤ pos y.denominator) <ℤ (y.numerator *ℤ pos x.denominator)
 
--- the same as tests
+-- the order as an `Ordering`
 unfoldable pub order : ℚ → ℚ → Ordering
 order x y = int_cmp (x.numerator *ℤ pos y.denominator) (y.numerator *ℤ pos x.denominator)
 
+-- whether x is at most y
 unfoldable pub is_at_most : ℚ → ℚ → Bool
 is_at_most x y = int_le (x.numerator *ℤ pos y.denominator) (y.numerator *ℤ pos x.denominator)
 
+-- whether x is y
 unfoldable pub equal_ℚ : ℚ → ℚ → Bool
 equal_ℚ x y = int_eq x.numerator y.numerator && nat_eq x.denominator y.denominator
 
--- the lesser and the greater of two
+-- the lesser of two
 unfoldable pub min_ℚ : ℚ → ℚ → ℚ
 min_ℚ x y = if is_at_most x y then x else y
 
+-- the greater of two
 unfoldable pub max_ℚ : ℚ → ℚ → ℚ
 max_ℚ x y = if is_at_most x y then y else x
 

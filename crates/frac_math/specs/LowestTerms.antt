@@ -14,7 +14,8 @@ gcd_within-is : (steps a b : ℕ) → b < steps → IsGcd a b (gcd_within steps 
 gcd_within-is zero a b h = absurd (not-suc-le-zero h)
 gcd_within-is (suc steps) a zero h = IsGcd-from_zero a zero refl
 gcd_within-is (suc steps) a (suc b) h =
-    IsGcd-from_mod a (suc b) (gcd_within steps (suc b) (a % suc b)) (gcd_within-is steps (suc b) (a % suc b) (lt_of_lt_of_le (mod-lt a (zero-lt-suc b)) (le_of_suc-le-suc h)))
+    IsGcd-from_mod a (suc b) (gcd_within steps (suc b) (a % suc b))
+    (gcd_within-is steps (suc b) (a % suc b) (lt_of_lt_of_le (mod-lt a (zero-lt-suc b)) (le_of_suc-le-suc h)))
 
 pub gcd-is : (a b : ℕ) → IsGcd a b (gcd a b)
 unfolding gcd
@@ -60,7 +61,8 @@ pub quotients_lowest : (n : ℤ) (d : ℕ) → 0 < d → T (is_lowest (int_div n
 quotients_lowest n d h =
     let g = gcd (unsigned_abs n) d in
     let divides : d / g ∣ d = subst (λ (m : ℕ). d / g ∣ m) (div-mul_cancel g (gcd-is (unsigned_abs n) d).1) (dvd-mul_right (d / g) g) in
-    are_lowest (int_div n (pos g)) (d / g) (pos_of_dvd_of_pos divides h) (ap (λ a. gcd a (d / g)) (unsigned_abs-div n g) ∙ gcd-quotients (unsigned_abs n) d h)
+    are_lowest (int_div n (pos g)) (d / g) (pos_of_dvd_of_pos divides h) (ap (λ a. gcd a (d / g)) (unsigned_abs-div n g)
+    ∙ gcd-quotients (unsigned_abs n) d h)
 
 -- ---- the two numbers come back
 int_div-one : (n : ℤ) → int_div n (pos 1) ≡ n

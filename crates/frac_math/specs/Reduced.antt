@@ -5,6 +5,7 @@ use Rattle.frac_math.specs.Gcd.{gcd}
 use Rattle.frac_math.specs.Fraction.{over}
 use Rattle.frac_math.specs.LowestTerms
 
+-- d is positive, and only 1 divides both n and d
 pub record IsReduced (n d : ℤ) : Type 0 where
   pub positive : pos 0 <ℤ d
   pub lowest : gcd (unsigned_abs n) (unsigned_abs d) ≡ 1

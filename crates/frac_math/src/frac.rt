@@ -28,7 +28,8 @@ impl Model for Frac {
 
     ghost inverse = { λ x. record { num = x.numerator; den = pos x.denominator } };
 
-    ghost inverse_ok = { λ f h. λ i. record { num = over-numerator f.num f.den h i; den = over-denominator f.num f.den h i } };
+    ghost inverse_ok = { λ f h. λ i.
+        record { num = over-numerator f.num f.den h i; den = over-denominator f.num f.den h i } };
 }
 
 // The size with the sign, where an i128 holds it.
@@ -151,7 +152,8 @@ impl Frac {
         Some(reduced(num, den))
     }
 
-    /// The exact quotient of a/b by c/d. None where c is 0, or where a d s or b c s leaves i128, for the sign s of c.
+    /// The exact quotient of a/b by c/d. None where c is 0, or where a d s or b c s leaves i128,
+    /// for the sign s of c.
     pub fn checked_div(&self, other: &Frac) -> Option<Frac>
         ensures exact { SomeIff result (QuotientFits self.now other.now) (self.now /ℚ other.now) }
         ensures value { result ≡ checked_quotient self.now other.now }

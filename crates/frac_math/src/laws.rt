@@ -1,5 +1,5 @@
-// The laws of the definitions, each the contract of a function.
-ghost use Rattle.frac_math.specs.Laws.{IsCheckedExactly, IsComparedExactly, DitherIsInside, DitherKeepsWhole, DitherRepeats, DitherIsDistinct};
+//! Laws of fractions and of the ordered dither: each is the contract of a function without a body.
+ghost use Rattle.frac_math.specs.Laws.{IsCheckedExactly, IsComparedExactly, FloorIsGreatest, DitherIsInside, DitherKeepsWhole, DitherRepeats, DitherIsDistinct};
 
 /// Each checked call has the exact answer where its numbers fit, and no answer elsewhere.
 pub fn checked_exactly()
@@ -9,6 +9,11 @@ pub fn checked_exactly()
 /// The test of equality and the order are those of the values.
 pub fn compared_exactly()
     ensures { IsComparedExactly }
+{}
+
+/// The floor of a fraction is the greatest whole number that is not above it.
+pub fn floor_is_greatest()
+    ensures { FloorIsGreatest }
 {}
 
 /// The dither lies strictly between 0 and 1.
@@ -21,12 +26,12 @@ pub fn dither_keeps_whole()
     ensures { DitherKeepsWhole }
 {}
 
-/// The dither repeats after 2^k places in each direction.
+/// The dither repeats after 2^k pixels in each direction.
 pub fn dither_repeats()
     ensures { DitherRepeats }
 {}
 
-/// No two of the 2^k by 2^k places have one dither.
+/// No two pixels of a square of 2^k by 2^k have the same dither.
 pub fn dither_is_distinct()
     ensures { DitherIsDistinct }
 {}

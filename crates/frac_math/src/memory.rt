@@ -1,6 +1,7 @@
 use std::alloc::{AllocError, AllocFailed};
 
-/// An allocation was refused. Every call of the project that allocates ends with this where memory is wanting.
+/// An allocation was refused. Every call of the project that allocates ends with this where memory
+/// is wanting.
 #[derive(Clone, Copy, Debug, PartialEq, Eq)]
 pub struct OutOfMemory;
 

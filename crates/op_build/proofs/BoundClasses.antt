@@ -5,7 +5,7 @@ use Rattle.frac_math.specs.Gcd.{gcd}
 use Rattle.frac_math.specs.Fraction.{over, ratio, ◌+ℚ◌, ◌*ℚ◌, neg_ℚ, inverse, equal_ℚ}
 use Rattle.colour_matrix.specs.Levels.{levels, scaled_to}
 use Rattle.colour_matrix.specs.Colour.{to_rgb_rows, from_rgb_rows}
-use Rattle.op_build.specs.Bounds.{sum_bound, product_bound, row_bound, bounds_after, bounds_from}
+use Rattle.op_range.specs.FractionBounds.{sum_bound, product_bound, row_bound, bounds_after, bounds_from}
 use Rattle.op_build.specs.BoundClasses.{source_fits, target_fits, side_classes}
 
 pub classes_fit : list_all (source_fits side_classes) side_classes ≡ true

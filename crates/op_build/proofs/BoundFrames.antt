@@ -8,7 +8,7 @@ use Rattle.pix_desc.specs.Layouts.{IsValid}
 use Rattle.pix_meaning.specs.declared.pair.Pair.{Pair}
 use Rattle.pix_meaning.specs.Pairs.{IsValidPair, has_channel, component_at, depth_of}
 use Rattle.pix_meaning.proofs.PixelLaws.{source_below}
-use Rattle.op_list.specs.declared.place.Place.{Place}
+use Rattle.op_list.specs.declared.position.PixelPosition.{PixelPosition}
 use Rattle.op_list.specs.Values.{four, number}
 use Rattle.op_list.specs.Run.{run, checked_run}
 use Rattle.op_build.specs.Meaning.{CheckedIsThere}
@@ -37,7 +37,7 @@ pub checked_run_is_there : (pair : Pair) (frame : List ℕ) (width rows x row y 
     → checked_run (recipe pair) frame width rows x row y ≡ Some (run (recipe pair) frame width rows x row y)
 unfolding checked_run run
 checked_run_is_there pair frame width rows x row y valid from to bytes =
-    let place : Place = record { width = width; rows = rows; x = x; row = row; y = y } in
+    let place : PixelPosition = record { width = width; rows = rows; x = x; row = row; y = y } in
     ap (λ o. option_map (λ values. four (λ i. number values i)) o)
     (recipe_is_there pair frame place (code_of pair.from.desc width rows frame x row) from to valid.dither (decode_gives pair.from.desc frame place valid.from bytes)
     (λ c listed. code_below pair.from.desc width rows frame x row c valid.from bytes))

@@ -15,7 +15,7 @@ use Rattle.pix_meaning.specs.declared.pair.Pair.{Pair}
 use Rattle.pix_meaning.specs.Pairs.{is_rgb}
 use Rattle.op_list.specs.declared.types.PixType.TheVariants.{Rat}
 use Rattle.op_list.specs.declared.types.Stage.{Stage}
-use Rattle.op_list.specs.declared.place.Place.{Place}
+use Rattle.op_list.specs.declared.position.PixelPosition.{PixelPosition}
 use Rattle.op_list.specs.declared.op.Op.{Op}
 use Rattle.op_list.specs.declared.op.Op.TheVariants.{Convert, Linear, Dither, Max, Min}
 use Rattle.op_list.specs.declared.values.Values.TheVariants.{Numbers, Fractions}
@@ -25,10 +25,10 @@ use Rattle.op_list.specs.Apply.{apply}
 use Rattle.op_list.specs.Checked.{checked_apply}
 use Rattle.op_list.specs.Run.{run_from, checked_run_from}
 use Rattle.op_build.specs.Recipe.{only_if, over_three, channel_depth, from_codes, to_codes, from_codes_by, to_codes_by, limits, convert}
-use Rattle.op_build.specs.Bounds.{Bound, HaveBounds, bound_in, limited_bound, bounds_after, bounds_from}
+use Rattle.op_range.specs.FractionBounds.{FractionBound, HaveBounds, bound_in, limited_bound, bounds_after, bounds_from}
 use Rattle.op_build.specs.BoundClasses.{SideClass, side_class_of, side_class, class_levels, source_ops, target_rows_ops, code_bounds, is_there, test_then, target_fits, source_fits, side_classes, IsOneOf}
-use Rattle.op_build.proofs.BoundFractions.{nat_bound}
-use Rattle.op_build.proofs.BoundSteps.{of_four, run_there}
+use Rattle.op_range.proofs.FractionBounds.{nat_bound}
+use Rattle.op_range.proofs.FractionBoundSteps.{of_four, run_there}
 use Rattle.op_build.proofs.BoundClasses.{classes_fit}
 
 -- ---- what a true test gives
@@ -46,16 +46,16 @@ there_some None h use_it = absurd (cc)
 there_some (Some x) h use_it = use_it x refl
 
 -- ---- one list after the other
-append_there : (first second : List Op) (bounds middle last : List Bound) → bounds_from first bounds ≡ Some middle → bounds_from second middle ≡ Some last
+append_there : (first second : List Op) (bounds middle last : List FractionBound) → bounds_from first bounds ≡ Some middle → bounds_from second middle ≡ Some last
     → bounds_from (first ++ second) bounds ≡ Some last
 unfolding bounds_from
-append_there [] second bounds middle last p q = subst (λ (b : List Bound). bounds_from second b ≡ Some last) (sym (same_Some bounds middle p)) q
+append_there [] second bounds middle last p q = subst (λ (b : List FractionBound). bounds_from second b ≡ Some last) (sym (same_Some bounds middle p)) q
 append_there (op ∷ first) second bounds middle last p q =
     option_and_then_some _ (bounds_after op bounds) middle p
     (λ next is rest. ap (λ o. option_and_then (λ next. bounds_from (first ++ second) next) o) is ∙ append_there first second next middle last rest q)
 
 -- ---- the end of the list, for each size of dither
-dither_after : (k : ℕ) (bounds : List Bound) → k ≤ 4 → bounds_after (Dither k) bounds ≡ bounds_after (Dither 4) bounds
+dither_after : (k : ℕ) (bounds : List FractionBound) → k ≤ 4 → bounds_after (Dither k) bounds ≡ bounds_after (Dither 4) bounds
 unfolding bounds_after
 dither_after zero bounds h = refl
 dither_after (suc zero) bounds h = refl
@@ -64,20 +64,20 @@ dither_after (suc (suc (suc zero))) bounds h = refl
 dither_after (suc (suc (suc (suc zero)))) bounds h = refl
 dither_after (suc (suc (suc (suc (suc k))))) bounds h = absurd (omega (arith, h))
 
-abbrev limited_after : List (Option ℚ) → List (Option ℚ) → List Bound → List Bound
+abbrev limited_after : List (Option ℚ) → List (Option ℚ) → List FractionBound → List FractionBound
 limited_after greatest least bounds =
     let lower = four (λ i. limited_bound (entry greatest i) (bound_in bounds i)) in
     four (λ i. limited_bound (entry least i) (bound_in lower i))
 
-limits_there : (greatest least : List (Option ℚ)) (bounds : List Bound) → bounds_from (Max greatest ∷ Min least ∷ []) bounds ≡ Some (limited_after greatest least bounds)
+limits_there : (greatest least : List (Option ℚ)) (bounds : List FractionBound) → bounds_from (Max greatest ∷ Min least ∷ []) bounds ≡ Some (limited_after greatest least bounds)
 unfolding bounds_from bounds_after
 limits_there greatest least bounds = refl
 
-step_there : (op : Op) (ops : List Op) (bounds next : List Bound) → bounds_after op bounds ≡ Some next → bounds_from (op ∷ ops) bounds ≡ bounds_from ops next
+step_there : (op : Op) (ops : List Op) (bounds next : List FractionBound) → bounds_after op bounds ≡ Some next → bounds_from (op ∷ ops) bounds ≡ bounds_from ops next
 unfolding bounds_from
 step_there op ops bounds next h = ap (λ o. option_and_then (λ next. bounds_from ops next) o) h
 
-end_there : (op : Op) (k : ℕ) (greatest least : List (Option ℚ)) (bounds codes last : List Bound) → k ≤ 4 → bounds_after op bounds ≡ Some codes
+end_there : (op : Op) (k : ℕ) (greatest least : List (Option ℚ)) (bounds codes last : List FractionBound) → k ≤ 4 → bounds_after op bounds ≡ Some codes
     → bounds_after (Dither 4) codes ≡ Some last → bounds_from (op ∷ Dither k ∷ Max greatest ∷ Min least ∷ []) bounds ≡ Some (limited_after greatest least last)
 end_there op k greatest least bounds codes last h p q =
     step_there op (Dither k ∷ Max greatest ∷ Min least ∷ []) bounds codes p
@@ -88,8 +88,8 @@ end_there op k greatest least bounds codes last h p q =
 abbrev class_list : SideClass → SideClass → ℕ → List (Option ℚ) → List (Option ℚ) → List Op
 class_list from to k greatest least = source_ops from ++ (target_rows_ops to ++ to_codes_by (class_levels to) ∷ Dither k ∷ Max greatest ∷ Min least ∷ [])
 
-target_there : (bounds : List Bound) (to : SideClass) (k : ℕ) (greatest least : List (Option ℚ)) (P : Type 0) → k ≤ 4 → target_fits bounds to ≡ true
-    → ((last : List Bound) → bounds_from (target_rows_ops to ++ to_codes_by (class_levels to) ∷ Dither k ∷ Max greatest ∷ Min least ∷ []) bounds ≡ Some last → P) → P
+target_there : (bounds : List FractionBound) (to : SideClass) (k : ℕ) (greatest least : List (Option ℚ)) (P : Type 0) → k ≤ 4 → target_fits bounds to ≡ true
+    → ((last : List FractionBound) → bounds_from (target_rows_ops to ++ to_codes_by (class_levels to) ∷ Dither k ∷ Max greatest ∷ Min least ∷ []) bounds ≡ Some last → P) → P
 unfolding target_fits
 target_there bounds to k greatest least P h t use_it =
     then_there (bounds_from (target_rows_ops to) bounds) _ t (λ values is_values t2.
@@ -99,7 +99,7 @@ target_there bounds to k greatest least P h t use_it =
     (end_there (to_codes_by (class_levels to)) k greatest least values codes last h is_codes is_last)))))
 
 classes_there : (from to : SideClass) (k : ℕ) (greatest least : List (Option ℚ)) (P : Type 0) → k ≤ 4 → IsOneOf from side_classes → IsOneOf to side_classes
-    → ((last : List Bound) → bounds_from (class_list from to k greatest least) (code_bounds (slice_index from.depths)) ≡ Some last → P) → P
+    → ((last : List FractionBound) → bounds_from (class_list from to k greatest least) (code_bounds (slice_index from.depths)) ≡ Some last → P) → P
 unfolding source_fits
 classes_there from to k greatest least P h f t use_it =
     then_there (bounds_from (source_ops from) (code_bounds (slice_index from.depths))) (λ bounds. list_all (target_fits bounds) side_classes)
@@ -171,7 +171,7 @@ codes_bounded code depth h = record {
       (nat_bound (code 2) (2 ^ depth 2 - 1) (omega (arith, h 2 (omega arith)))) (nat_bound (code 3) (2 ^ depth 3 - 1) (omega (arith, h 3 (omega arith))));
 }
 
-converted_there : (frame : List ℕ) (place : Place) (stage : Stage) (ops : List Op) (code depth : ℕ → ℕ) (last : List Bound) → ((c : ℕ) → c < 4 → code c < 2 ^ depth c)
+converted_there : (frame : List ℕ) (place : PixelPosition) (stage : Stage) (ops : List Op) (code depth : ℕ → ℕ) (last : List FractionBound) → ((c : ℕ) → c < 4 → code c < 2 ^ depth c)
     → bounds_from ops (code_bounds depth) ≡ Some last
     → checked_run_from frame place stage (Convert Rat Bool.false ∷ ops) (Numbers (four code)) ≡ Some (run_from frame place stage (Convert Rat Bool.false ∷ ops) (Numbers (four code)))
 unfolding checked_run_from run_from checked_apply apply
@@ -179,7 +179,7 @@ converted_there frame place stage ops code depth last h is =
     (run_there frame place (stage_after stage (Convert Rat Bool.false)) ops (Fractions (four (λ c. nat (code c)))) (code_bounds depth) last (codes_bounded code depth h) is).there
 
 -- the checked conversion gives what the exact one gives
-pub converting_is_there : (pair : Pair) (frame : List ℕ) (place : Place) (stage : Stage) (code : ℕ → ℕ)
+pub converting_is_there : (pair : Pair) (frame : List ℕ) (place : PixelPosition) (stage : Stage) (code : ℕ → ℕ)
     → IsOneOf (side_class pair.from) side_classes → IsOneOf (side_class pair.to) side_classes → pair.dither ≤ 4
     → ((c : ℕ) → c < 4 → code c < 2 ^ channel_depth pair.from.desc c)
     → checked_run_from frame place stage (convert pair) (Numbers (four code)) ≡ Some (run_from frame place stage (convert pair) (Numbers (four code)))

@@ -1,7 +1,7 @@
 -- The checked run of the whole list of a pair whose sides are of the classes is there, and is the exact one.
-use Rattle.std.proofs.Common.{◌≡◌, ℕ, ◌-◌, ◌^◌, ◌<◌, ◌≤◌, Bool, true, false, if◌then◌else◌, List, [], ◌∷◌, ◌++◌, refl, sym, ◌∙◌, ap, subst}
+use Rattle.std.proofs.Common.{◌≡◌, ℕ, ◌-◌, ◌^◌, ◌<◌, ◌≤◌, Bool, true, false, if◌then◌else◌, List, [], ◌∷◌, ◌++◌, refl, append_assoc, sym, ◌∙◌, ap, subst}
 use Rattle.std.specs.Prelude.{Option, Some}
-use Rattle.std.specs.Option.{option_and_then}
+use Rattle.std.specs.List.{list_all}
 use Rattle.pix_desc.specs.declared.desc.Desc.{Desc}
 use Rattle.frac_math.specs.Fraction.{ℚ}
 use Rattle.pix_desc.specs.Component.{component_of}
@@ -12,7 +12,7 @@ use Rattle.op_list.specs.declared.types.PixType.TheVariants.{U8}
 use Rattle.op_list.specs.Types.{bits}
 use Rattle.op_list.specs.declared.types.Stage.{Stage}
 use Rattle.op_list.specs.declared.types.Stage.TheVariants.{Start}
-use Rattle.op_list.specs.declared.place.Place.{Place}
+use Rattle.op_list.specs.declared.position.PixelPosition.{PixelPosition}
 use Rattle.op_list.specs.declared.op.Op.{Op}
 use Rattle.op_list.specs.declared.op.Op.TheVariants.{Read, Write, SwapBytes, Unpack, Pack, Clear, LeftShift, RightShift, Swizzle, Convert, Dither, Linear, Scale}
 use Rattle.op_list.specs.declared.values.Values.{Values}
@@ -22,68 +22,15 @@ use Rattle.op_list.specs.Typing.{stage_after, stage_from}
 use Rattle.op_list.specs.Apply.{apply}
 use Rattle.op_list.specs.Checked.{checked_apply}
 use Rattle.op_list.specs.Run.{run_from, checked_run_from}
-use Rattle.op_list.proofs.Exact.{run_from-append}
+use Rattle.op_list.proofs.Runs.{forms_nothing, unformed_run, checked_both}
 use Rattle.op_build.specs.Shape.{element_type, element_counts, is_swapped, field_widths}
 use Rattle.op_build.specs.Recipe.{only_if, channel_depth, from_places, missing_codes, to_places, spare_zeros, decode, convert, encode, recipe}
 use Rattle.op_build.specs.BoundClasses.{side_class, side_classes, IsOneOf}
 use Rattle.op_build.proofs.BoundPairs.{converting_is_there}
 
--- ---- operations without sums and products of fractions
-abbrev is_unchecked : Op → Bool
-is_unchecked (Dither k) = false
-is_unchecked (Linear rows) = false
-is_unchecked (Scale by) = false
-is_unchecked op = true
-
-abbrev are_unchecked : List Op → Bool
-are_unchecked [] = true
-are_unchecked (op ∷ ops) = if is_unchecked op then are_unchecked ops else false
-
-unchecked_apply : (frame : List ℕ) (place : Place) (stage : Stage) (op : Op) (values : Values) → is_unchecked op ≡ true
-    → checked_apply frame place stage op values ≡ Some (apply frame place stage op values)
-unfolding checked_apply
-unchecked_apply frame place stage (Dither k) values h = absurd (cc)
-unchecked_apply frame place stage (Linear rows) values h = absurd (cc)
-unchecked_apply frame place stage (Scale by) values h = absurd (cc)
-unchecked_apply frame place stage op values h = refl
-
-both_of : (a b : Bool) → (if a then b else false) ≡ true → (a ≡ true) × (b ≡ true)
-both_of true b h = (refl, h)
-both_of false b h = absurd (cc)
-
-unchecked_run : (frame : List ℕ) (place : Place) (stage : Stage) (ops : List Op) (values : Values) → are_unchecked ops ≡ true
-    → checked_run_from frame place stage ops values ≡ Some (run_from frame place stage ops values)
-unfolding checked_run_from run_from
-unchecked_run frame place stage [] values h = refl
-unchecked_run frame place stage (op ∷ ops) values h =
-    let p = both_of (is_unchecked op) (are_unchecked ops) h in
-    ap (λ o. option_and_then (λ next. checked_run_from frame place (stage_after stage op) ops next) o) (unchecked_apply frame place stage op values p.0)
-    ∙ unchecked_run frame place (stage_after stage op) ops (apply frame place stage op values) p.1
-
--- ---- one part after the other
-checked_append : (frame : List ℕ) (place : Place) (stage : Stage) (first second : List Op) (values : Values)
-    → checked_run_from frame place stage (first ++ second) values ≡ option_and_then (λ next. checked_run_from frame place (stage_from stage first) second next) (checked_run_from frame place stage first values)
-unfolding checked_run_from stage_from
-checked_append frame place stage [] second values = refl
-checked_append frame place stage (op ∷ first) second values = after_both (checked_apply frame place stage op values) _ _ _ (λ next. checked_append frame place (stage_after stage op) first second next)
-  where
-    after_both : {A B C : Type 0} (o : Option A) (f : A → Option C) (g : A → Option B) (h : B → Option C) → ((x : A) → f x ≡ option_and_then h (g x))
-        → option_and_then f o ≡ option_and_then h (option_and_then g o)
-    after_both Option.None f g h e = refl
-    after_both (Some x) f g h e = e x
-
-append_exact : (frame : List ℕ) (place : Place) (stage : Stage) (first second : List Op) (values : Values)
-    → checked_run_from frame place stage first values ≡ Some (run_from frame place stage first values)
-    → checked_run_from frame place (stage_from stage first) second (run_from frame place stage first values) ≡ Some (run_from frame place (stage_from stage first) second (run_from frame place stage first values))
-    → checked_run_from frame place stage (first ++ second) values ≡ Some (run_from frame place stage (first ++ second) values)
-append_exact frame place stage first second values p q =
-    checked_append frame place stage first second values
-    ∙ ap (λ o. option_and_then (λ next. checked_run_from frame place (stage_from stage first) second next) o) p
-    ∙ q ∙ ap Some (sym (run_from-append frame place stage first second values))
-
 -- ---- decoding and encoding
 decode_by : (palette swapped elements : Bool) (elem : PixType) (counts widths places : List ℕ) (left right : ℕ) (codes : List (Option ℚ))
-    → are_unchecked (if palette then Read U8 (1 ∷ 0 ∷ 0 ∷ 0 ∷ []) true ∷ Clear codes ∷ []
+    → list_all forms_nothing (if palette then Read U8 (1 ∷ 0 ∷ 0 ∷ 0 ∷ []) true ∷ Clear codes ∷ []
     else Read elem counts false ∷ only_if swapped SwapBytes ++ (if elements then LeftShift left ∷ RightShift right ∷ [] else Unpack widths ∷ []) ++ Swizzle places ∷ Clear codes ∷ []) ≡ true
 decode_by true swapped elements elem counts widths places left right codes = refl
 decode_by false true true elem counts widths places left right codes = refl
@@ -91,7 +38,7 @@ decode_by false true false elem counts widths places left right codes = refl
 decode_by false false true elem counts widths places left right codes = refl
 decode_by false false false elem counts widths places left right codes = refl
 
-decode_unchecked : (desc : Desc) → are_unchecked (decode desc) ≡ true
+decode_unchecked : (desc : Desc) → list_all forms_nothing (decode desc) ≡ true
 unfolding decode
 decode_unchecked desc =
     let c = component_of desc 0 in
@@ -100,13 +47,13 @@ decode_unchecked desc =
     (size - c.shift - c.depth) (size - c.depth) (missing_codes desc)
 
 encode_by : (swapped elements : Bool) (elem : PixType) (counts widths places : List ℕ) (left : ℕ) (codes : List (Option ℚ))
-    → are_unchecked (Convert elem false ∷ Swizzle places ∷ Clear codes ∷ (if elements then LeftShift left else Pack widths) ∷ only_if swapped SwapBytes ++ Write elem counts ∷ []) ≡ true
+    → list_all forms_nothing (Convert elem false ∷ Swizzle places ∷ Clear codes ∷ (if elements then LeftShift left else Pack widths) ∷ only_if swapped SwapBytes ++ Write elem counts ∷ []) ≡ true
 encode_by true true elem counts widths places left codes = refl
 encode_by true false elem counts widths places left codes = refl
 encode_by false true elem counts widths places left codes = refl
 encode_by false false elem counts widths places left codes = refl
 
-encode_unchecked : (desc : Desc) → are_unchecked (encode desc) ≡ true
+encode_unchecked : (desc : Desc) → list_all forms_nothing (encode desc) ≡ true
 unfolding encode
 encode_unchecked desc =
     encode_by (is_swapped desc) (is_elements desc) (element_type desc) (element_counts desc) (field_widths desc) (to_places desc) (component_of desc 0).shift (spare_zeros desc)
@@ -115,12 +62,8 @@ encode_unchecked desc =
 recipe_parts : (pair : Pair) → recipe pair ≡ decode pair.from.desc ++ (convert pair ++ encode pair.to.desc)
 unfolding recipe
 recipe_parts pair = append_assoc (decode pair.from.desc) (convert pair) (encode pair.to.desc)
-  where
-    append_assoc : (xs ys zs : List Op) → (xs ++ ys ++ zs) ≡ (xs ++ (ys ++ zs))
-    append_assoc [] ys zs = refl
-    append_assoc (x ∷ xs) ys zs = ap (λ r. x ∷ r) (append_assoc xs ys zs)
 
-pub recipe_is_there : (pair : Pair) (frame : List ℕ) (place : Place) (code : ℕ → ℕ)
+pub recipe_is_there : (pair : Pair) (frame : List ℕ) (place : PixelPosition) (code : ℕ → ℕ)
     → IsOneOf (side_class pair.from) side_classes → IsOneOf (side_class pair.to) side_classes → pair.dither ≤ 4
     → run_from frame place Start (decode pair.from.desc) no_values ≡ Numbers (four code)
     → ((c : ℕ) → c < 4 → code c < 2 ^ channel_depth pair.from.desc c)
@@ -134,6 +77,6 @@ recipe_is_there pair frame place code from to k gives h =
     let converts : checked_run_from frame place stage c values ≡ Some (run_from frame place stage c values) =
     subst (λ (v : Values). checked_run_from frame place stage c v ≡ Some (run_from frame place stage c v)) (sym gives) (converting_is_there pair frame place stage code from to k h) in
     let rest : checked_run_from frame place stage (c ++ e) values ≡ Some (run_from frame place stage (c ++ e) values) =
-    append_exact frame place stage c e values converts (unchecked_run frame place (stage_from stage c) e (run_from frame place stage c values) (encode_unchecked pair.to.desc)) in
+    checked_both frame place stage c e values converts (unformed_run frame place (stage_from stage c) e (run_from frame place stage c values) (encode_unchecked pair.to.desc)) in
     subst (λ (ops : List Op). checked_run_from frame place Start ops no_values ≡ Some (run_from frame place Start ops no_values)) (sym (recipe_parts pair))
-    (append_exact frame place Start d (c ++ e) no_values (unchecked_run frame place Start d no_values (decode_unchecked pair.from.desc)) rest)
+    (checked_both frame place Start d (c ++ e) no_values (unformed_run frame place Start d no_values (decode_unchecked pair.from.desc)) rest)

@@ -8,6 +8,7 @@ use Rattle.std.proofs.lemmas.Nat.Bits.{bit_at_cat_low, bit_at_cat_high}
 use Rattle.pix_desc.specs.Component.{bit_of}
 use Rattle.pix_desc.proofs.Bits.{bit_at_low_byte, bit_at_high_byte, bit_at_mod_byte, bit_at_div_byte}
 use Rattle.pix_desc.proofs.FrameExists.{bit_of_byte}
+use Rattle.op_list.proofs.ReversedBytes.{power_of_bytes, reversed_bytes-below}
 use Rattle.op_list.specs.Pixel.{number_at}
 use Rattle.op_list.specs.Whole.{reversed_bytes}
 use Rattle.op_build.proofs.WordBits.{bit_in_order}
@@ -30,18 +31,6 @@ bit_at_number_at frame (suc count) at m bytes inside =
     ∙ bit_at_number_at frame count (at + 1) (m - 8) bytes (omega arith)
     ∙ ap (bit_of frame) (let e : 8 * (at + 1) + (m - 8) ≡ 8 * at + m = omega arith in e))
     (cases_lt m 8)
-
-power_of_bytes : (count : ℕ) → 256 ^ count ≡ 2 ^ (8 * count)
-power_of_bytes zero = refl
-power_of_bytes (suc count) =
-    let more : 256 ^ suc count ≡ 256 ^ count * 256 = pow-suc 256 count in
-    let bits : 8 * suc count ≡ 8 * count + 8 = omega arith in
-    omega (arith, power_of_bytes count, ap (λ k. 2 ^ k) bits, pow-add 2 (8 * count) 8)
-
-reversed_bytes-below : (count n : ℕ) → reversed_bytes count n < 256 ^ count
-reversed_bytes-below zero n = omega arith
-reversed_bytes-below (suc count) n =
-    omega (arith, pow-suc 256 count, mul-add-lt (n % 256) (256 ^ count) (reversed_bytes count (n / 256)) 256 (omega arith) (reversed_bytes-below count (n / 256)))
 
 -- bit m of a number with its bytes in the other order
 bit_at_reversed : (count n m : ℕ) → m < 8 * count → bit_at (reversed_bytes count n) m ≡ bit_at n (8 * (count - 1 - m / 8) + m % 8)

@@ -17,7 +17,7 @@ use Rattle.op_list.specs.Apply.{cleared_number, cleared, swizzled}
 use Rattle.op_build.specs.Shape.{position_of}
 use Rattle.op_build.specs.Recipe.{from_places, missing_code, missing_codes}
 use Rattle.op_build.specs.Codes.{code_of}
-use Rattle.op_build.proofs.Lists.{get_or-four, same_fours}
+use Rattle.op_list.proofs.Four.{get_or-four, same_four}
 
 pub code_of-there : (desc : Desc) (width rows : ℕ) (frame : List ℕ) (x row c : ℕ) → has_channel desc c ≡ true
     → code_of desc width rows frame x row c ≡ source_component desc width rows frame (component_at desc c) x row
@@ -72,7 +72,7 @@ pub in_channels : (desc : Desc) (values codes : ℕ → ℕ)
     → ((c : ℕ) → has_channel desc c ≡ false → missing_code desc c ≡ codes c)
     → cleared (missing_codes desc) (swizzled (from_places desc) (Numbers (four values))) ≡ Numbers (four codes)
 in_channels desc values codes there missing =
-    ap Numbers (same_fours
+    ap Numbers (same_four
     (λ c. cleared_number (if has_channel desc c then None else Some (nat (missing_code desc c))) (get_or (four values) (if has_channel desc c then position_of desc (component_at desc c) else c) 0))
     codes
     (λ c below. ⊎_elim

@@ -15,7 +15,7 @@ use Rattle.pix_meaning.specs.Target.{result_of}
 use Rattle.pix_meaning.proofs.Channels.{has_channels}
 use Rattle.op_list.specs.declared.op.Op.{Op}
 use Rattle.op_list.specs.declared.op.Op.TheVariants.{Convert, Dither, Linear, Min, Max}
-use Rattle.op_list.specs.declared.place.Place.{Place}
+use Rattle.op_list.specs.declared.position.PixelPosition.{PixelPosition}
 use Rattle.op_list.specs.declared.types.PixType.TheVariants.{Rat}
 use Rattle.op_list.specs.declared.types.Stage.{Stage}
 use Rattle.op_list.specs.declared.types.Stage.TheVariants.{Typed}
@@ -24,8 +24,8 @@ use Rattle.op_list.specs.Values.{four}
 use Rattle.op_list.specs.Apply.{apply, at_most, at_least}
 use Rattle.op_list.specs.Run.{run_from}
 use Rattle.op_list.specs.Typing.{stage_after, stage_from}
-use Rattle.op_list.proofs.Exact.{run_from-append}
-use Rattle.op_list.proofs.Pushed.{stage_from-append}
+use Rattle.op_list.proofs.Runs.{run_from-append}
+use Rattle.op_list.proofs.Typed.{stage_from-append}
 use Rattle.op_build.specs.Recipe.{only_if, channel_depth, channel_levels, over_three, from_codes, to_codes, limits, convert}
 use Rattle.op_build.specs.Codes.{code_of}
 use Rattle.op_build.proofs.ConvertLevels.{levels_there, code_means}
@@ -73,14 +73,14 @@ last_steps pair =
     to_codes pair.to ∷ Dither pair.dither
     ∷ Max (limits pair.to.desc (λ c. nat 0)) ∷ Min (limits pair.to.desc (λ c. nat (2 ^ channel_depth pair.to.desc c - 1))) ∷ []
 
-limited_run : (frame : List ℕ) (place : Place) (stage : Stage) (pair : Pair) (f : ℕ → ℚ)
+limited_run : (frame : List ℕ) (place : PixelPosition) (stage : Stage) (pair : Pair) (f : ℕ → ℚ)
     → run_from frame place stage
     (Dither pair.dither ∷ Max (limits pair.to.desc (λ c. nat 0)) ∷ Min (limits pair.to.desc (λ c. nat (2 ^ channel_depth pair.to.desc c - 1))) ∷ []) (Fractions (four f))
     ≡ Fractions (four (λ c. limited (has_channel pair.to.desc c) (channel_depth pair.to.desc c) (f c +ℚ dither_at pair.dither place.x place.y)))
 unfolding run_from apply
 limited_run frame place stage pair f = refl
 
-last_run : (frame : List ℕ) (place : Place) (stage : Stage) (pair : Pair) (e : Values)
+last_run : (frame : List ℕ) (place : PixelPosition) (stage : Stage) (pair : Pair) (e : Values)
     → run_from frame place stage (last_steps pair) (Fractions (four (value_at e)))
     ≡ Fractions (four (λ c. limited (has_channel pair.to.desc c) (channel_depth pair.to.desc c) (to_code (channel_levels pair.to c) (value_at e c) +ℚ dither_at pair.dither place.x place.y)))
 unfolding run_from
@@ -89,7 +89,7 @@ last_run frame place stage pair e =
     ap (run_from frame place (stage_after stage (to_codes pair.to)) rest) (to_codes-applied frame place stage pair.to (value_at e))
     ∙ limited_run frame place (stage_after stage (to_codes pair.to)) pair (λ c. to_code (channel_levels pair.to c) (value_at e c))
 
-source_read : (side : Side) (frame : List ℕ) (place : Place) → IsValid side.desc
+source_read : (side : Side) (frame : List ℕ) (place : PixelPosition) → IsValid side.desc
     → Fractions (four (λ c. from_code (channel_levels side c) (nat (code_of side.desc place.width place.rows frame place.x place.row c))))
     ≡ Fractions (four (value_at (source_values side place.width place.rows frame place.x place.row)))
 unfolding source_values
@@ -107,7 +107,7 @@ abbrev from_rgb_step : Pair → List Op
 from_rgb_step pair = only_if (not (is_rgb pair.to.desc)) (Linear (over_three (from_rgb_rows pair.to.matrix)))
 
 -- the steps between the values and the codes of the target
-middle_run : (frame : List ℕ) (place : Place) (stage : Stage) (pair : Pair) (e : Values) → IsValidPair pair
+middle_run : (frame : List ℕ) (place : PixelPosition) (stage : Stage) (pair : Pair) (e : Values) → IsValidPair pair
     → run_from frame place stage (to_rgb_step pair ++ from_rgb_step pair ++ last_steps pair) (Fractions (four (value_at e)))
     ≡ Fractions (four (λ c. limited (has_channel pair.to.desc c) (channel_depth pair.to.desc c)
     (to_code (channel_levels pair.to c) (value_at (target_values pair.to (rgb_values pair.from e)) c) +ℚ dither_at pair.dither place.x place.y)))
@@ -122,14 +122,14 @@ middle_run frame place stage pair e valid =
     ∙ from_rgb-run frame place second pair.to (rgb_values pair.from e) valid.to_matrix)
     ∙ last_run frame place third pair (target_values pair.to (rgb_values pair.from e))
 
-first_steps : (frame : List ℕ) (place : Place) (stage : Stage) (side : Side) (rest : List Op) (code : ℕ → ℕ)
+first_steps : (frame : List ℕ) (place : PixelPosition) (stage : Stage) (side : Side) (rest : List Op) (code : ℕ → ℕ)
     → run_from frame place stage (Convert Rat Bool.false ∷ from_codes side ∷ rest) (Numbers (four code))
     ≡ run_from frame place (stage_after (Typed Rat) (from_codes side)) rest (apply frame place (Typed Rat) (from_codes side) (Fractions (four (λ c. nat (code c)))))
 unfolding run_from apply stage_after
 first_steps frame place stage side rest code = refl
 
 -- Converting gives the coded values from the codes of the source.
-pub convert_run : (pair : Pair) (frame : List ℕ) (place : Place) (stage : Stage) → IsValidPair pair
+pub convert_run : (pair : Pair) (frame : List ℕ) (place : PixelPosition) (stage : Stage) → IsValidPair pair
     → run_from frame place stage (convert pair) (Numbers (four (code_of pair.from.desc place.width place.rows frame place.x place.row)))
     ≡ Fractions (four (coded pair place.width place.rows frame place.x place.row place.y))
 unfolding convert coded
@@ -167,14 +167,14 @@ convert_stage pair stage =
     ∙ last_stage pair
 
 -- what converting gives at a pixel: values for the encoding, and their floors
-pub record ConvertGives (pair : Pair) (frame : List ℕ) (place : Place) (stage : Stage) (first : ℕ) : Type 0 where
+pub record ConvertGives (pair : Pair) (frame : List ℕ) (place : PixelPosition) (stage : Stage) (first : ℕ) : Type 0 where
   pub values : run_from frame place stage (convert pair) (Numbers (four (code_of pair.from.desc place.width place.rows frame place.x place.row)))
       ≡ Fractions (four (coded pair place.width place.rows frame place.x place.row place.y))
   pub floors : (j : ℕ) → j < pair.to.desc.count
       → floor (coded pair place.width place.rows frame place.x place.row place.y (channel_of pair.to.desc j)) ≡ pos (result_of pair place.width place.rows first frame j place.x place.row)
   pub rational : stage_from stage (convert pair) ≡ Typed Rat
 
-pub convert_gives : (pair : Pair) (frame : List ℕ) (place : Place) (stage : Stage) (first : ℕ) → IsValidPair pair → pair.to.desc.palette ≡ false → place.y ≡ first + place.row
+pub convert_gives : (pair : Pair) (frame : List ℕ) (place : PixelPosition) (stage : Stage) (first : ℕ) → IsValidPair pair → pair.to.desc.palette ≡ false → place.y ≡ first + place.row
     → ConvertGives pair frame place stage first
 convert_gives pair frame place stage first valid none here =
     let counted : component_count pair.to.desc ≡ pair.to.desc.count = cond-false pair.to.desc.palette 4 pair.to.desc.count none in

@@ -15,7 +15,7 @@ use Rattle.pix_meaning.specs.Pairs.{is_rgb}
 use Rattle.pix_meaning.specs.Values.{rgb_values, target_values}
 use Rattle.op_list.specs.declared.op.Op.{Op}
 use Rattle.op_list.specs.declared.op.Op.TheVariants.{Linear, Scale}
-use Rattle.op_list.specs.declared.place.Place.{Place}
+use Rattle.op_list.specs.declared.position.PixelPosition.{PixelPosition}
 use Rattle.op_list.specs.declared.types.Stage.{Stage}
 use Rattle.op_list.specs.declared.values.Values.TheVariants.{Fractions}
 use Rattle.op_list.specs.Values.{four}
@@ -49,7 +49,7 @@ row_3 s k a b c d =
     let o = num (pos 0) in
     ring fractions (s ∷ k ∷ a ∷ b ∷ c ∷ d ∷ []) (var 1 ⊕ o ⊗ var 2 ⊕ o ⊗ var 3 ⊕ o ⊗ var 4 ⊕ var 0 ⊗ var 5) (var 0 ⊗ var 5 ⊕ var 1) refl
 
-diagonal_applied : (frame : List ℕ) (place : Place) (stage : Stage) (scale constant f : ℕ → ℚ)
+diagonal_applied : (frame : List ℕ) (place : PixelPosition) (stage : Stage) (scale constant f : ℕ → ℚ)
     → apply frame place stage (Linear (diagonal scale constant)) (Fractions (four f)) ≡ Fractions (four (λ c. scale c *ℚ f c +ℚ constant c))
 unfolding apply
 diagonal_applied frame place stage scale constant f =
@@ -110,7 +110,7 @@ from_op plain l = if plain then Scale (nat 1 /ℚ (l 0).scale) else Linear (diag
 abbrev to_op : Bool → (ℕ → Levels) → Op
 to_op plain l = if plain then Scale (l 0).scale else Linear (diagonal (λ c. (l c).scale) (λ c. (l c).base))
 
-from_plain : (frame : List ℕ) (place : Place) (stage : Stage) (l : ℕ → Levels) (f : ℕ → ℚ) → IsPlain l
+from_plain : (frame : List ℕ) (place : PixelPosition) (stage : Stage) (l : ℕ → Levels) (f : ℕ → ℚ) → IsPlain l
     → apply frame place stage (from_op true l) (Fractions (four f)) ≡ Fractions (four (λ c. from_code (l c) (f c)))
 unfolding apply
 from_plain frame place stage l f p =
@@ -120,13 +120,13 @@ from_plain frame place stage l f p =
     (scaled_from (l 2) (f 2) (l 0).scale p.scale2 p.base2)
     (scaled_from (l 3) (f 3) (l 0).scale p.scale3 p.base3)
 
-from_linear : (frame : List ℕ) (place : Place) (stage : Stage) (l : ℕ → Levels) (f : ℕ → ℚ)
+from_linear : (frame : List ℕ) (place : PixelPosition) (stage : Stage) (l : ℕ → Levels) (f : ℕ → ℚ)
     → apply frame place stage (from_op false l) (Fractions (four f)) ≡ Fractions (four (λ c. from_code (l c) (f c)))
 from_linear frame place stage l f =
     diagonal_applied frame place stage (λ c. nat 1 /ℚ (l c).scale) (λ c. neg_ℚ (l c).base /ℚ (l c).scale) f
     ∙ same_fractions _ _ _ _ _ _ _ _ (linear_from (l 0) (f 0)) (linear_from (l 1) (f 1)) (linear_from (l 2) (f 2)) (linear_from (l 3) (f 3))
 
-pub from_codes-applied : (frame : List ℕ) (place : Place) (stage : Stage) (side : Side) (f : ℕ → ℚ)
+pub from_codes-applied : (frame : List ℕ) (place : PixelPosition) (stage : Stage) (side : Side) (f : ℕ → ℚ)
     → apply frame place stage (from_codes side) (Fractions (four f)) ≡ Fractions (four (λ c. from_code (channel_levels side c) (f c)))
 unfolding from_codes
 from_codes-applied frame place stage side f =
@@ -139,7 +139,7 @@ from_codes-applied frame place stage side f =
     ∙ from_linear frame place stage (channel_levels side) f)
     (cases_Bool (are_plain (channel_levels side)))
 
-to_plain : (frame : List ℕ) (place : Place) (stage : Stage) (l : ℕ → Levels) (f : ℕ → ℚ) → IsPlain l
+to_plain : (frame : List ℕ) (place : PixelPosition) (stage : Stage) (l : ℕ → Levels) (f : ℕ → ℚ) → IsPlain l
     → apply frame place stage (to_op true l) (Fractions (four f)) ≡ Fractions (four (λ c. to_code (l c) (f c)))
 unfolding apply
 to_plain frame place stage l f p =
@@ -149,13 +149,13 @@ to_plain frame place stage l f p =
     (scaled_to (l 2) (f 2) (l 0).scale p.scale2 p.base2)
     (scaled_to (l 3) (f 3) (l 0).scale p.scale3 p.base3)
 
-to_linear : (frame : List ℕ) (place : Place) (stage : Stage) (l : ℕ → Levels) (f : ℕ → ℚ)
+to_linear : (frame : List ℕ) (place : PixelPosition) (stage : Stage) (l : ℕ → Levels) (f : ℕ → ℚ)
     → apply frame place stage (to_op false l) (Fractions (four f)) ≡ Fractions (four (λ c. to_code (l c) (f c)))
 to_linear frame place stage l f =
     diagonal_applied frame place stage (λ c. (l c).scale) (λ c. (l c).base) f
     ∙ same_fractions _ _ _ _ _ _ _ _ (linear_to (l 0) (f 0)) (linear_to (l 1) (f 1)) (linear_to (l 2) (f 2)) (linear_to (l 3) (f 3))
 
-pub to_codes-applied : (frame : List ℕ) (place : Place) (stage : Stage) (side : Side) (f : ℕ → ℚ)
+pub to_codes-applied : (frame : List ℕ) (place : PixelPosition) (stage : Stage) (side : Side) (f : ℕ → ℚ)
     → apply frame place stage (to_codes side) (Fractions (four f)) ≡ Fractions (four (λ c. to_code (channel_levels side c) (f c)))
 unfolding to_codes
 to_codes-applied frame place stage side f =
@@ -192,7 +192,7 @@ fourth_alone x y z w =
     let o = num (pos 0) in
     ring fractions (x ∷ y ∷ z ∷ w ∷ []) (o ⊕ o ⊗ var 0 ⊕ o ⊗ var 1 ⊕ o ⊗ var 2 ⊕ num (pos 1) ⊗ var 3) (var 3) refl
 
-pub over_three-applied : (frame : List ℕ) (place : Place) (stage : Stage) (rows : List (List ℚ)) (e : Values)
+pub over_three-applied : (frame : List ℕ) (place : PixelPosition) (stage : Stage) (rows : List (List ℚ)) (e : Values)
     → apply frame place stage (Linear (over_three rows)) (Fractions (four (value_at e))) ≡ Fractions (four (value_at (by_rows rows e)))
 unfolding apply
 over_three-applied frame place stage rows e =
@@ -200,7 +200,7 @@ over_three-applied frame place stage rows e =
     three_of_four (coefficient (row_at rows i) 0) (coefficient (row_at rows i) 1) (coefficient (row_at rows i) 2) e.first e.second e.third e.fourth in
     same_fractions _ _ _ _ _ _ _ _ (row 0) (row 1) (row 2) (fourth_alone e.first e.second e.third e.fourth)
 
-pub to_rgb-run : (frame : List ℕ) (place : Place) (stage : Stage) (side : Side) (e : Values)
+pub to_rgb-run : (frame : List ℕ) (place : PixelPosition) (stage : Stage) (side : Side) (e : Values)
     → run_from frame place stage (only_if (not (is_rgb side.desc)) (Linear (over_three (to_rgb_rows side.matrix)))) (Fractions (four (value_at e)))
     ≡ Fractions (four (value_at (rgb_values side e)))
 unfolding run_from rgb_values
@@ -211,7 +211,7 @@ to_rgb-run frame place stage side e =
       | false ↦ over_three-applied frame place stage (to_rgb_rows side.matrix) e ∙ ap (λ v. Fractions (four (value_at v))) (by_rows-to_rgb_rows side.matrix e)
     ]
 
-pub from_rgb-run : (frame : List ℕ) (place : Place) (stage : Stage) (side : Side) (e : Values) → IsMatrix side.matrix
+pub from_rgb-run : (frame : List ℕ) (place : PixelPosition) (stage : Stage) (side : Side) (e : Values) → IsMatrix side.matrix
     → run_from frame place stage (only_if (not (is_rgb side.desc)) (Linear (over_three (from_rgb_rows side.matrix)))) (Fractions (four (value_at e)))
     ≡ Fractions (four (value_at (target_values side e)))
 unfolding run_from target_values

@@ -12,7 +12,7 @@ use Rattle.pix_desc.proofs.Valid.{plane_used}
 use Rattle.op_list.specs.Typing.{are_in_front, are_counts}
 use Rattle.op_list.specs.Values.{four}
 use Rattle.op_build.specs.Shape.{element_bytes, element_counts}
-use Rattle.op_build.proofs.Lists.{get_or-four}
+use Rattle.op_list.proofs.Four.{get_or-four}
 use Rattle.op_build.proofs.Planes.{component_in, step_by, bytes_read-positive}
 
 pub counts_are : (desc : Desc) (size : ℕ) → element_bytes desc ≡ size → element_counts desc ≡ four (λ plane. plane_step desc plane / size)

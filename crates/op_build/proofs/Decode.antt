@@ -3,7 +3,7 @@ use Rattle.std.proofs.Common.{◌≡◌, ◌<◌, ℕ, ⊎_elim, true, List, All
 use Rattle.std.proofs.lemmas.Bool.{cases_Bool, cond-true, cond-false}
 use Rattle.pix_desc.specs.declared.desc.Desc.{Desc}
 use Rattle.pix_desc.specs.Layouts.{IsValid}
-use Rattle.op_list.specs.declared.place.Place.{Place}
+use Rattle.op_list.specs.declared.position.PixelPosition.{PixelPosition}
 use Rattle.op_list.specs.declared.types.PixType.TheVariants.{U8}
 use Rattle.op_list.specs.declared.types.Stage.TheVariants.{Start, Typed}
 use Rattle.op_list.specs.declared.values.Values.TheVariants.{Numbers}
@@ -18,7 +18,7 @@ use Rattle.op_build.proofs.DecodePlain.{decode_plain, stage_plain}
 use Rattle.op_build.proofs.DecodePalette.{decode_palette, stage_palette}
 use Rattle.op_build.proofs.Shapes.{has_type}
 
-pub decode_gives : (desc : Desc) (frame : List ℕ) (place : Place) → IsValid desc → All (λ byte. byte < 256) frame
+pub decode_gives : (desc : Desc) (frame : List ℕ) (place : PixelPosition) → IsValid desc → All (λ byte. byte < 256) frame
     → run_from frame place Start (decode desc) no_values ≡ Numbers (four (code_of desc place.width place.rows frame place.x place.row))
 decode_gives desc frame place valid bytes =
     ⊎_elim
@@ -40,7 +40,7 @@ decoded_type-whole desc valid =
     (λ none. ap is_whole_type (cond-false desc.palette U8 (element_type desc) none) ∙ (has_type desc valid).whole)
     (cases_Bool desc.palette)
 
-pub gives_codes : (desc : Desc) (frame : List ℕ) (place : Place) → GivesCodes desc frame place
+pub gives_codes : (desc : Desc) (frame : List ℕ) (place : PixelPosition) → GivesCodes desc frame place
 gives_codes desc frame place = λ valid bytes. decode_gives desc frame place valid bytes
 
 pub whole_typed : (desc : Desc) → IsWholeTyped desc

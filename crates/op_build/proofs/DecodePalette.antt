@@ -15,7 +15,7 @@ use Rattle.pix_desc.proofs.Valid.{has_no_fault, laid_out}
 use Rattle.pix_meaning.specs.Pairs.{has_channel, component_at}
 use Rattle.pix_meaning.specs.Values.{entry_component, source_component}
 use Rattle.op_list.specs.declared.op.Op.TheVariants.{Read, Clear}
-use Rattle.op_list.specs.declared.place.Place.{Place}
+use Rattle.op_list.specs.declared.position.PixelPosition.{PixelPosition}
 use Rattle.op_list.specs.declared.types.PixType.TheVariants.{U8}
 use Rattle.op_list.specs.declared.types.Stage.TheVariants.{Start, Typed}
 use Rattle.op_list.specs.declared.values.Values.TheVariants.{Numbers}
@@ -32,7 +32,7 @@ use Rattle.op_build.specs.Codes.{code_of}
 use Rattle.op_build.proofs.DecodeRuns.{decode_by, run_palette}
 use Rattle.op_build.proofs.ElementStarts.{word_begins}
 use Rattle.op_build.proofs.FieldValues.{element_field}
-use Rattle.op_build.proofs.Lists.{same_fours}
+use Rattle.op_list.proofs.Four.{same_four}
 
 -- The one component of a palette format is a byte a pixel.
 pub record IsByte (desc : Desc) : Type 0 where
@@ -83,7 +83,7 @@ is_byte_format desc valid palette =
 byte_whole : (n : ℕ) → n < 256 → (n + 256 * 0) / 2 ^ 0 % 2 ^ 8 ≡ n
 byte_whole n small = omega arith
 
-module _ (desc : Desc) (frame : List ℕ) (place : Place) (valid : IsValid desc) (palette : desc.palette ≡ true) (all_bytes : All (λ byte. byte < 256) frame) where
+module _ (desc : Desc) (frame : List ℕ) (place : PixelPosition) (valid : IsValid desc) (palette : desc.palette ≡ true) (all_bytes : All (λ byte. byte < 256) frame) where
   -- the index of a pixel
   index_is : frame_component desc place.width place.rows frame 0 place.x place.row ≡ get_or frame (pixel_number place) 0
   index_is =
@@ -147,13 +147,13 @@ decode_is desc palette =
     cond-true desc.palette (Read U8 (1 ∷ 0 ∷ 0 ∷ 0 ∷ []) true ∷ Clear (missing_codes desc) ∷ [])
     (decode_by (element_type desc) (element_counts desc) (is_swapped desc) (split desc) (from_places desc) (missing_codes desc)) palette
 
-pub decode_palette : (desc : Desc) (frame : List ℕ) (place : Place) → IsValid desc → desc.palette ≡ true → All (λ byte. byte < 256) frame
+pub decode_palette : (desc : Desc) (frame : List ℕ) (place : PixelPosition) → IsValid desc → desc.palette ≡ true → All (λ byte. byte < 256) frame
     → run_from frame place Start (decode desc) no_values ≡ Numbers (four (code_of desc place.width place.rows frame place.x place.row))
 decode_palette desc frame place valid palette all_bytes =
     let colours = palette_colours frame place in
     ap (λ ops. run_from frame place Start ops no_values) (decode_is desc palette)
     ∙ run_palette frame place (missing_codes desc)
-    ∙ ap Numbers (same_fours
+    ∙ ap Numbers (same_four
     (λ c. cleared_number (if has_channel desc c then None else Some (nat (missing_code desc c))) (get_or colours c 0))
     (code_of desc place.width place.rows frame place.x place.row)
     (λ c below.

@@ -11,7 +11,7 @@ use Rattle.pix_desc.proofs.Valid.{laid_out}
 use Rattle.pix_meaning.specs.Pairs.{component_at}
 use Rattle.op_list.specs.declared.op.Op.{Op}
 use Rattle.op_list.specs.declared.op.Op.TheVariants.{Read, Unpack, Clear, LeftShift, RightShift}
-use Rattle.op_list.specs.declared.place.Place.{Place}
+use Rattle.op_list.specs.declared.position.PixelPosition.{PixelPosition}
 use Rattle.op_list.specs.declared.types.PixType.TheVariants.{U8}
 use Rattle.op_list.specs.declared.types.Stage.TheVariants.{Start, Typed}
 use Rattle.op_list.specs.declared.values.Values.TheVariants.{Numbers}
@@ -49,7 +49,7 @@ swap_needed frame true size at bytes =
     (cases_eq size 1)
 
 -- an element in the format's byte order, where it begins
-ordered_is : (desc : Desc) (frame counts : List ℕ) (place : Place) (i at size : ℕ) → HasType desc → ((k : ℕ) → get_or frame k 0 < 256) → element_bytes desc ≡ size
+ordered_is : (desc : Desc) (frame counts : List ℕ) (place : PixelPosition) (i at size : ℕ) → HasType desc → ((k : ℕ) → get_or frame k 0 < 256) → element_bytes desc ≡ size
     → i < sum counts → element_in (pixel_count place) (pixel_number place) 0 counts i * size ≡ at
     → ordered_element (element_type desc) counts (is_swapped desc) frame place i ≡ in_order desc.be size (number_at size frame at)
 ordered_is desc frame counts place i at size typed small size_is within begins =
@@ -61,7 +61,7 @@ ordered_is desc frame counts place i at size typed small size_is within begins =
     ∙ ap (λ b. in_order b size (number_at size frame at)) (typed.swapped ∙ ap (λ s. desc.be && not (nat_eq s 1)) size_is)
     ∙ swap_needed frame desc.be size at small
 
-module _ (desc : Desc) (frame : List ℕ) (place : Place) (valid : IsValid desc) (all_bytes : All (λ byte. byte < 256) frame) where
+module _ (desc : Desc) (frame : List ℕ) (place : PixelPosition) (valid : IsValid desc) (all_bytes : All (λ byte. byte < 256) frame) where
   component_here : ℕ → ℕ
   component_here j = frame_component desc place.width place.rows frame j place.x place.row
 
@@ -163,7 +163,7 @@ split_elements desc elements = cond-true (is_elements desc) (shifts desc) (Unpac
 pub split_word : (desc : Desc) → is_elements desc ≡ false → split desc ≡ Unpack (field_widths desc) ∷ []
 split_word desc word = cond-false (is_elements desc) (shifts desc) (Unpack (field_widths desc) ∷ []) word
 
-pub decode_plain : (desc : Desc) (frame : List ℕ) (place : Place) → IsValid desc → desc.palette ≡ false → All (λ byte. byte < 256) frame
+pub decode_plain : (desc : Desc) (frame : List ℕ) (place : PixelPosition) → IsValid desc → desc.palette ≡ false → All (λ byte. byte < 256) frame
     → run_from frame place Start (decode desc) no_values ≡ Numbers (four (code_of desc place.width place.rows frame place.x place.row))
 decode_plain desc frame place valid none all_bytes =
     let elem = element_type desc in

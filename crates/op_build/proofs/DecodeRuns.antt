@@ -3,7 +3,7 @@ use Rattle.std.proofs.Common.{◌≡◌, ℕ, ◌*◌, ◌/◌, ◌%◌, ◌^◌
 use Rattle.frac_math.specs.Fraction.{ℚ}
 use Rattle.op_list.specs.declared.op.Op.{Op}
 use Rattle.op_list.specs.declared.op.Op.TheVariants.{Read, SwapBytes, Unpack, Clear, LeftShift, RightShift, Swizzle}
-use Rattle.op_list.specs.declared.place.Place.{Place}
+use Rattle.op_list.specs.declared.position.PixelPosition.{PixelPosition}
 use Rattle.op_list.specs.declared.types.PixType.{PixType}
 use Rattle.op_list.specs.declared.types.PixType.TheVariants.{U8}
 use Rattle.op_list.specs.declared.types.Stage.TheVariants.{Start, Typed}
@@ -23,24 +23,24 @@ abbrev pub decode_by : PixType → List ℕ → Bool → List Op → List ℕ �
 decode_by elem counts swapped splits places entries = Read elem counts false ∷ only_if swapped SwapBytes ++ splits ++ Swizzle places ∷ Clear entries ∷ []
 
 -- element i of a pixel, in the format's byte order
-abbrev pub ordered_element : PixType → List ℕ → Bool → List ℕ → Place → ℕ → ℕ
+abbrev pub ordered_element : PixType → List ℕ → Bool → List ℕ → PixelPosition → ℕ → ℕ
 ordered_element elem counts swapped frame place i = in_order swapped (bytes elem) (element_of elem counts frame place i)
 
-pub run_shifts : (frame : List ℕ) (place : Place) (elem : PixType) (counts : List ℕ) (swapped : Bool) (up down : ℕ) (places : List ℕ) (entries : List (Option ℚ))
+pub run_shifts : (frame : List ℕ) (place : PixelPosition) (elem : PixType) (counts : List ℕ) (swapped : Bool) (up down : ℕ) (places : List ℕ) (entries : List (Option ℚ))
     → run_from frame place Start (decode_by elem counts swapped (LeftShift up ∷ RightShift down ∷ []) places entries) no_values
     ≡ cleared entries (swizzled places (Numbers (four (λ i. ordered_element elem counts swapped frame place i * 2 ^ up % 2 ^ bits elem / 2 ^ down))))
 unfolding run_from apply stage_after
 run_shifts frame place elem counts true up down places entries = refl
 run_shifts frame place elem counts false up down places entries = refl
 
-pub run_fields : (frame : List ℕ) (place : Place) (elem : PixType) (counts : List ℕ) (swapped : Bool) (widths : List ℕ) (places : List ℕ) (entries : List (Option ℚ))
+pub run_fields : (frame : List ℕ) (place : PixelPosition) (elem : PixType) (counts : List ℕ) (swapped : Bool) (widths : List ℕ) (places : List ℕ) (entries : List (Option ℚ))
     → run_from frame place Start (decode_by elem counts swapped (Unpack widths ∷ []) places entries) no_values
     ≡ cleared entries (swizzled places (Numbers (four (λ i. field widths (ordered_element elem counts swapped frame place 0) i))))
 unfolding run_from apply stage_after
 run_fields frame place elem counts true widths places entries = refl
 run_fields frame place elem counts false widths places entries = refl
 
-pub run_palette : (frame : List ℕ) (place : Place) (entries : List (Option ℚ))
+pub run_palette : (frame : List ℕ) (place : PixelPosition) (entries : List (Option ℚ))
     → run_from frame place Start (Read U8 (1 ∷ 0 ∷ 0 ∷ 0 ∷ []) true ∷ Clear entries ∷ []) no_values ≡ cleared entries (Numbers (palette_colours frame place))
 unfolding run_from apply stage_after
 run_palette frame place entries = refl

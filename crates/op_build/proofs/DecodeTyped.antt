@@ -17,6 +17,7 @@ use Rattle.op_list.specs.declared.types.Stage.{Stage}
 use Rattle.op_list.specs.declared.types.Stage.TheVariants.{Start, Typed}
 use Rattle.op_list.specs.Types.{bits, is_whole_type, is_wide, is_rational}
 use Rattle.op_list.specs.Typing.{may_follow, are_good, are_counts, are_typed, all_fit, entry_fits, stage_after}
+use Rattle.op_list.proofs.Typed.{typed_from, typed_none}
 use Rattle.op_build.specs.Shape.{element_type, element_counts, field_widths, is_swapped, position_of}
 use Rattle.op_build.specs.Recipe.{decode, only_if, from_places, missing_code, missing_codes}
 use Rattle.op_build.proofs.Codes.{missing_code-below, channel_listed}
@@ -24,7 +25,7 @@ use Rattle.op_build.proofs.DecodeRuns.{decode_by}
 use Rattle.op_build.proofs.DecodePlain.{decode_is, shifts, split_elements, split_word}
 use Rattle.op_build.proofs.DecodePalette as Palette
 use Rattle.op_build.proofs.ElementPlaces.{HasElements}
-use Rattle.op_build.proofs.Lists.{four_hold}
+use Rattle.op_list.proofs.Four.{four_hold}
 use Rattle.op_build.proofs.Shapes.{first_size, has_layout, has_places, has_type, element_counts_are_good, field_widths_are_good}
 use Rattle.op_build.proofs.WordBits.{number_end, word_end}
 use Rattle.op_build.proofs.WordShape.{HasWord}
@@ -53,15 +54,6 @@ from_places_fit desc valid none =
 
 -- ---- the operations behind one another
 
-typed_step : (stage : Stage) (op : Op) (ops : List Op) → may_follow stage op ≡ true → are_good stage op ≡ true → are_typed (stage_after stage op) ops ≡ true → are_typed stage (op ∷ ops) ≡ true
-unfolding are_typed
-typed_step stage op ops follows good rest =
-    and_from (may_follow stage op && are_good stage op) (are_typed (stage_after stage op) ops) (and_from (may_follow stage op) (are_good stage op) follows good) rest
-
-typed_none : (stage : Stage) → are_typed stage [] ≡ true
-unfolding are_typed
-typed_none stage = refl
-
 -- What is wanted of the arguments of a decoding.
 record AreArguments (elem : PixType) (counts : List ℕ) (swapped : Bool) (places : List ℕ) (entries : List (Option ℚ)) : Type 0 where
   whole : is_whole_type elem ≡ true
@@ -73,19 +65,19 @@ record AreArguments (elem : PixType) (counts : List ℕ) (swapped : Bool) (place
 module _ (elem : PixType) (counts : List ℕ) (swapped : Bool) (places : List ℕ) (entries : List (Option ℚ)) (are : AreArguments elem counts swapped places entries) where
   clear_typed : are_typed (Typed elem) (Clear entries ∷ []) ≡ true
   unfolding may_follow are_good stage_after
-  clear_typed = typed_step (Typed elem) (Clear entries) [] refl (or_right (is_rational (Typed elem)) (all_fit (bits elem) entries) are.fit) (typed_none (Typed elem))
+  clear_typed = typed_from (Typed elem) (Clear entries) [] refl (or_right (is_rational (Typed elem)) (all_fit (bits elem) entries) are.fit) (typed_none (Typed elem))
 
   places_typed : are_typed (Typed elem) (Swizzle places ∷ Clear entries ∷ []) ≡ true
   unfolding may_follow are_good stage_after
-  places_typed = typed_step (Typed elem) (Swizzle places) (Clear entries ∷ []) refl are.within clear_typed
+  places_typed = typed_from (Typed elem) (Swizzle places) (Clear entries ∷ []) refl are.within clear_typed
 
   read_typed : (ops : List Op) → are_typed (Typed elem) ops ≡ true → are_typed Start (Read elem counts false ∷ only_if swapped SwapBytes ++ ops) ≡ true
   unfolding may_follow are_good stage_after
   read_typed ops rest =
-      typed_step Start (Read elem counts false) (only_if swapped SwapBytes ++ ops) refl
+      typed_from Start (Read elem counts false) (only_if swapped SwapBytes ++ ops) refl
       (and_from (is_whole_type elem && are_counts 4 counts) true (and_from (is_whole_type elem) (are_counts 4 counts) are.whole are.good) refl)
       (elim swapped as (λ s. (s ≡ true → is_wide (Typed elem) ≡ true) → are_typed (Typed elem) (only_if s SwapBytes ++ ops) ≡ true) [
-        | true ↦ λ wide. typed_step (Typed elem) SwapBytes ops (wide refl) refl rest
+        | true ↦ λ wide. typed_from (Typed elem) SwapBytes ops (wide refl) refl rest
         | false ↦ λ wide. rest
       ] are.wide)
 
@@ -94,15 +86,15 @@ module _ (elem : PixType) (counts : List ℕ) (swapped : Bool) (places : List �
   typed_shifts up down first second =
       ap (are_typed Start) (append_assoc (Read elem counts false ∷ only_if swapped SwapBytes) (LeftShift up ∷ RightShift down ∷ []) (Swizzle places ∷ Clear entries ∷ []))
       ∙ read_typed (LeftShift up ∷ RightShift down ∷ Swizzle places ∷ Clear entries ∷ [])
-      (typed_step (Typed elem) (LeftShift up) (RightShift down ∷ Swizzle places ∷ Clear entries ∷ []) are.whole (lt-ltb up (bits elem) first)
-      (typed_step (Typed elem) (RightShift down) (Swizzle places ∷ Clear entries ∷ []) are.whole (lt-ltb down (bits elem) second) places_typed))
+      (typed_from (Typed elem) (LeftShift up) (RightShift down ∷ Swizzle places ∷ Clear entries ∷ []) are.whole (lt-ltb up (bits elem) first)
+      (typed_from (Typed elem) (RightShift down) (Swizzle places ∷ Clear entries ∷ []) are.whole (lt-ltb down (bits elem) second) places_typed))
 
   typed_fields : (widths : List ℕ) → are_counts (bits elem) widths ≡ true → are_typed Start (decode_by elem counts swapped (Unpack widths ∷ []) places entries) ≡ true
   unfolding may_follow are_good stage_after
   typed_fields widths good =
       ap (are_typed Start) (append_assoc (Read elem counts false ∷ only_if swapped SwapBytes) (Unpack widths ∷ []) (Swizzle places ∷ Clear entries ∷ []))
       ∙ read_typed (Unpack widths ∷ Swizzle places ∷ Clear entries ∷ [])
-      (typed_step (Typed elem) (Unpack widths) (Swizzle places ∷ Clear entries ∷ []) are.whole good places_typed)
+      (typed_from (Typed elem) (Unpack widths) (Swizzle places ∷ Clear entries ∷ []) are.whole good places_typed)
 
 -- ---- the whole
 
@@ -145,8 +137,8 @@ unfolding may_follow are_good stage_after
 palette_typed desc valid palette =
     let deep : depth_of desc 0 ≤ 8 = omega (arith, cond-true {A = ℕ} desc.palette 8 (component_of desc 0).depth palette) in
     ap (are_typed Start) (Palette.decode_is desc palette)
-    ∙ typed_step Start (Read U8 (1 ∷ 0 ∷ 0 ∷ 0 ∷ []) true) (Clear (missing_codes desc) ∷ []) refl refl
-    (typed_step (Typed U8) (Clear (missing_codes desc)) [] refl (missing_codes_fit desc 8 valid deep) (typed_none (Typed U8)))
+    ∙ typed_from Start (Read U8 (1 ∷ 0 ∷ 0 ∷ 0 ∷ []) true) (Clear (missing_codes desc) ∷ []) refl refl
+    (typed_from (Typed U8) (Clear (missing_codes desc)) [] refl (missing_codes_fit desc 8 valid deep) (typed_none (Typed U8)))
 
 pub decode_typed : (desc : Desc) → IsValid desc → are_typed Start (decode desc) ≡ true
 decode_typed desc valid = ⊎_elim (λ palette. palette_typed desc valid palette) (λ none. plain_typed desc valid none) (cases_Bool desc.palette)

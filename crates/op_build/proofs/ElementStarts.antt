@@ -8,7 +8,7 @@ use Rattle.pix_desc.specs.declared.desc.Desc.{Desc}
 use Rattle.pix_desc.specs.Component.{component_of, first_byte, count_of}
 use Rattle.pix_desc.specs.Frame.{plane_step, plane_start, row_start}
 use Rattle.pix_desc.specs.Layouts.{IsLaidOut}
-use Rattle.op_list.specs.declared.place.Place.{Place}
+use Rattle.op_list.specs.declared.position.PixelPosition.{PixelPosition}
 use Rattle.op_list.specs.declared.types.PixType.{PixType}
 use Rattle.op_list.specs.Types.{bytes}
 use Rattle.op_list.specs.Pixel.{number_at, element_in, element_of, pixel_count, pixel_number}
@@ -20,7 +20,7 @@ use Rattle.op_build.proofs.ElementPlaces.{HasElements, element_index_is, first_i
 use Rattle.op_build.proofs.Planes.{component_in}
 
 -- an element of a pixel is the number of the bytes where it begins
-pub element_of_at : (elem : PixType) (planes frame : List ℕ) (place : Place) (i at : ℕ) → i < sum planes → element_in (pixel_count place) (pixel_number place) 0 planes i * bytes elem ≡ at
+pub element_of_at : (elem : PixType) (planes frame : List ℕ) (place : PixelPosition) (i at : ℕ) → i < sum planes → element_in (pixel_count place) (pixel_number place) 0 planes i * bytes elem ≡ at
     → element_of elem planes frame place i ≡ number_at (bytes elem) frame at
 element_of_at elem planes frame place i at within begins = element_of-is elem planes frame place i within ∙ ap (number_at (bytes elem) frame) begins
 
@@ -77,7 +77,7 @@ module _ (desc : Desc) (size : ℕ) (laid : IsLaidOut desc) (is : HasElements de
       ap (λ t. sum (take t (element_counts desc))) next ∙ sum_by_more (λ n. n) (element_counts desc) plane 0 listed ∙ ap (λ t. before + t) here in
       omega (arith, plane_start_is width rows plane (omega arith), ap (λ t. width * rows * (t * size)) more, ap (λ t. rows * (width * t)) (whole_steps plane))
 
-  pub element_starts : (place : Place) (i p r : ℕ) → IsInPlane (element_counts desc) i p r → element_in (pixel_count place) (pixel_number place) 0 (element_counts desc) i * size
+  pub element_starts : (place : PixelPosition) (i p r : ℕ) → IsInPlane (element_counts desc) i p r → element_in (pixel_count place) (pixel_number place) 0 (element_counts desc) i * size
       ≡ row_start desc place.width place.rows p place.row + place.x * plane_step desc p + r * size
   unfolding row_start
   element_starts place i p r there =
@@ -101,7 +101,7 @@ module _ (desc : Desc) (size : ℕ) (laid : IsLaidOut desc) (is : HasElements de
   }
 
   -- it begins where the component's first byte stands
-  pub element_begins : (place : Place) (j : ℕ) → j < desc.count → element_in (pixel_count place) (pixel_number place) 0 (element_counts desc) (element_index desc j) * size
+  pub element_begins : (place : PixelPosition) (j : ℕ) → j < desc.count → element_in (pixel_count place) (pixel_number place) 0 (element_counts desc) (element_index desc j) * size
       ≡ row_start desc place.width place.rows (component_of desc j).plane place.row + place.x * (component_of desc j).step + count_of (first_byte desc (component_of desc j))
   element_begins place j listed =
       let c = component_of desc j in

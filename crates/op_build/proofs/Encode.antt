@@ -5,7 +5,7 @@ use Rattle.pix_desc.specs.declared.desc.Desc.{Desc}
 use Rattle.pix_desc.specs.Frame.{frame_of, FitDepths}
 use Rattle.pix_desc.specs.Layouts.{IsValid}
 use Rattle.pix_meaning.specs.Pairs.{channel_of}
-use Rattle.op_list.specs.declared.place.Place.{Place}
+use Rattle.op_list.specs.declared.position.PixelPosition.{PixelPosition}
 use Rattle.op_list.specs.declared.types.PixType.TheVariants.{Rat}
 use Rattle.op_list.specs.declared.types.Stage.TheVariants.{Typed}
 use Rattle.op_list.specs.declared.values.Values.TheVariants.{Numbers, Fractions}
@@ -17,7 +17,7 @@ use Rattle.op_build.proofs.EncodeElements.{GivesValues, encode_elements}
 use Rattle.op_build.proofs.EncodeWord.{encode_word}
 use Rattle.op_build.proofs.Shapes.{has_layout}
 
-pub encode_gives : (desc : Desc) (frame : List ℕ) (place : Place) (value : ℕ → ℕ → ℕ → ℕ) (vs : ℕ → ℚ) → IsValid desc → desc.palette ≡ false
+pub encode_gives : (desc : Desc) (frame : List ℕ) (place : PixelPosition) (value : ℕ → ℕ → ℕ → ℕ) (vs : ℕ → ℚ) → IsValid desc → desc.palette ≡ false
     → FitDepths desc place.width place.rows value → ((j : ℕ) → j < desc.count → floor (vs (channel_of desc j)) ≡ pos (value j place.x place.row))
     → place.x < place.width → place.row < place.rows
     → run_from frame place (Typed Rat) (encode desc) (Fractions (four vs))

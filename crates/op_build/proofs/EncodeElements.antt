@@ -16,7 +16,7 @@ use Rattle.pix_desc.proofs.BitPositions.{byte_below}
 use Rattle.pix_desc.proofs.Valid.{laid_out}
 use Rattle.pix_meaning.specs.Pairs.{channel_of}
 use Rattle.op_list.specs.declared.op.Op.TheVariants.{LeftShift, Pack}
-use Rattle.op_list.specs.declared.place.Place.{Place}
+use Rattle.op_list.specs.declared.position.PixelPosition.{PixelPosition}
 use Rattle.op_list.specs.declared.types.PixType.TheVariants.{Rat}
 use Rattle.op_list.specs.declared.types.Stage.TheVariants.{Typed}
 use Rattle.op_list.specs.declared.values.Values.TheVariants.{Numbers, Fractions}
@@ -35,7 +35,7 @@ use Rattle.op_build.proofs.EncodeBits.{element_bit, component_bit}
 use Rattle.op_build.proofs.EncodeOrder.{IsSize, turned_back, ordered_below}
 use Rattle.op_build.proofs.EncodePlaces.{fits_type, spare_place, component_place}
 use Rattle.op_build.proofs.EncodeRuns.{encode_by, placed_code, run_shift}
-use Rattle.op_build.proofs.Lists.{same_fours}
+use Rattle.op_list.proofs.Four.{same_four}
 use Rattle.op_build.proofs.Shapes.{first_size, HasType, element_type_is}
 use Rattle.op_build.proofs.WordBits.{number_end}
 
@@ -49,7 +49,7 @@ shifted_below v shift depth size small room =
     fits_type (v * 2 ^ shift) (shift + depth) size room (omega (arith, mul-add-lt v (2 ^ shift) 0 (2 ^ depth) small (pow_pos shift), pow-add 2 shift depth))
 
 -- an element whose number in the format's byte order is known
-pub element_from : (desc : Desc) (frame counts : List ℕ) (place : Place) (i at size number : ℕ) → HasType desc → ((k : ℕ) → get_or frame k 0 < 256) → element_bytes desc ≡ size
+pub element_from : (desc : Desc) (frame counts : List ℕ) (place : PixelPosition) (i at size number : ℕ) → HasType desc → ((k : ℕ) → get_or frame k 0 < 256) → element_bytes desc ≡ size
     → i < sum counts → element_in (pixel_count place) (pixel_number place) 0 counts i * size ≡ at → in_order desc.be size (number_at size frame at) ≡ number
     → in_order (is_swapped desc) (bytes (element_type desc)) number ≡ element_of (element_type desc) counts frame place i
 element_from desc frame counts place i at size number typed small size_is within begins is =
@@ -119,7 +119,7 @@ encode_is desc elements =
     (cond-true (is_elements desc) (LeftShift (component_of desc 0).shift) (Pack (field_widths desc)) elements)
 
 -- the values of a pixel, as channels and as components
-pub record GivesValues (desc : Desc) (place : Place) (value : ℕ → ℕ → ℕ → ℕ) (vs : ℕ → ℚ) : Type 0 where
+pub record GivesValues (desc : Desc) (place : PixelPosition) (value : ℕ → ℕ → ℕ → ℕ) (vs : ℕ → ℚ) : Type 0 where
   pub valid : IsValid desc
   pub plain : desc.palette ≡ false
   pub fit : FitDepths desc place.width place.rows value
@@ -127,11 +127,11 @@ pub record GivesValues (desc : Desc) (place : Place) (value : ℕ → ℕ → �
   pub column : place.x < place.width
   pub row : place.row < place.rows
 
-module _ (desc : Desc) (place : Place) (value : ℕ → ℕ → ℕ → ℕ) (vs : ℕ → ℚ) (gives : GivesValues desc place value vs) where
+module _ (desc : Desc) (place : PixelPosition) (value : ℕ → ℕ → ℕ → ℕ) (vs : ℕ → ℚ) (gives : GivesValues desc place value vs) where
   abbrev pub made : List ℕ
   made = frame_of desc place.width place.rows value
 
-  abbrev pub place_again : Place
+  abbrev pub place_again : PixelPosition
   place_again = record { width = place.width; rows = place.rows; x = place.x; row = place.row; y = place.row }
 
   pub made_says : IsFrameOf desc place.width place.rows value made
@@ -215,7 +215,7 @@ module _ (desc : Desc) (place : Place) (value : ℕ → ℕ → ℕ → ℕ) (vs
     encode_elements frame =
         ap (λ ops. run_from frame place (Typed Rat) ops (Fractions (four vs))) (encode_is desc is.elements)
         ∙ run_shift frame place (element_type desc) (element_counts desc) (is_swapped desc) (component_of desc 0).shift (to_places desc) (spare_zeros desc) vs (element_type_is desc is).whole
-        ∙ ap Numbers (same_fours
+        ∙ ap Numbers (same_four
         (λ i. if nat_lt i (sum (element_counts desc)) then in_order (is_swapped desc) (bytes (element_type desc)) (at_place i) else 0)
         (λ i. element_of (element_type desc) (element_counts desc) made place_again i)
         written_is)

@@ -12,7 +12,7 @@ use Rattle.op_list.specs.Apply.{cleared_number}
 use Rattle.op_build.specs.Shape.{slots}
 use Rattle.op_build.specs.Recipe.{source_of, to_places, spare_zero, spare_zeros}
 use Rattle.op_build.proofs.EncodeRuns.{whole_code, placed_code}
-use Rattle.op_build.proofs.Lists.{get_or-four}
+use Rattle.op_list.proofs.Four.{get_or-four}
 
 -- a number below 2^depth is the same in a type of no fewer bits
 pub fits_type : (n depth size : ℕ) → depth ≤ size → n < 2 ^ depth → n < 2 ^ size

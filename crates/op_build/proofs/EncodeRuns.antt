@@ -4,7 +4,7 @@ use Rattle.std.specs.Prelude.{sum, nat_lt}
 use Rattle.frac_math.specs.Fraction.{ℚ, floor}
 use Rattle.op_list.specs.declared.op.Op.{Op}
 use Rattle.op_list.specs.declared.op.Op.TheVariants.{Write, SwapBytes, Pack, Clear, LeftShift, Swizzle, Convert}
-use Rattle.op_list.specs.declared.place.Place.{Place}
+use Rattle.op_list.specs.declared.position.PixelPosition.{PixelPosition}
 use Rattle.op_list.specs.declared.types.PixType.{PixType}
 use Rattle.op_list.specs.declared.types.PixType.TheVariants.{U8, U16, U32, Rat}
 use Rattle.op_list.specs.declared.types.Stage.TheVariants.{Typed}
@@ -30,7 +30,7 @@ whole_code elem vs c = modulo (floor (vs c)) (2 ^ bits elem)
 abbrev pub placed_code : PixType → List ℕ → List (Option ℚ) → (ℕ → ℚ) → ℕ → ℕ
 placed_code elem places entries vs i = cleared_number (entry entries i) (get_or (four (whole_code elem vs)) (get_or places i 0) 0)
 
-pub run_shift : (frame : List ℕ) (place : Place) (elem : PixType) (counts : List ℕ) (swapped : Bool) (up : ℕ) (places : List ℕ) (entries : List (Option ℚ)) (vs : ℕ → ℚ)
+pub run_shift : (frame : List ℕ) (place : PixelPosition) (elem : PixType) (counts : List ℕ) (swapped : Bool) (up : ℕ) (places : List ℕ) (entries : List (Option ℚ)) (vs : ℕ → ℚ)
     → is_whole_type elem ≡ true → run_from frame place (Typed Rat) (encode_by elem counts swapped (LeftShift up) places entries) (Fractions (four vs))
     ≡ Numbers (four (λ i. if nat_lt i (sum counts) then in_order swapped (bytes elem) (placed_code elem places entries vs i * 2 ^ up % 2 ^ bits elem) else 0))
 unfolding run_from apply stage_after
@@ -43,7 +43,7 @@ run_shift frame place U32 counts false up places entries vs whole = refl
 run_shift frame place Rat counts swapped up places entries vs whole = absurd cc
 
 -- a word is the first element, and the only one
-pub run_pack : (frame : List ℕ) (place : Place) (elem : PixType) (swapped : Bool) (widths : List ℕ) (places : List ℕ) (entries : List (Option ℚ)) (vs : ℕ → ℚ)
+pub run_pack : (frame : List ℕ) (place : PixelPosition) (elem : PixType) (swapped : Bool) (widths : List ℕ) (places : List ℕ) (entries : List (Option ℚ)) (vs : ℕ → ℚ)
     → is_whole_type elem ≡ true → run_from frame place (Typed Rat) (encode_by elem (1 ∷ 0 ∷ 0 ∷ 0 ∷ []) swapped (Pack widths) places entries) (Fractions (four vs))
     ≡ Numbers (in_order swapped (bytes elem) (packed widths (Numbers (four (placed_code elem places entries vs)))) ∷ 0 ∷ 0 ∷ 0 ∷ [])
 unfolding run_from apply stage_after

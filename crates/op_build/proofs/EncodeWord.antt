@@ -17,7 +17,7 @@ use Rattle.pix_desc.proofs.BitPositions.{byte_below, same_position}
 use Rattle.pix_desc.proofs.FrameReads.{read_by}
 use Rattle.pix_desc.proofs.Valid.{laid_out}
 use Rattle.op_list.specs.declared.op.Op.TheVariants.{LeftShift, Pack}
-use Rattle.op_list.specs.declared.place.Place.{Place}
+use Rattle.op_list.specs.declared.position.PixelPosition.{PixelPosition}
 use Rattle.op_list.specs.declared.types.PixType.TheVariants.{Rat}
 use Rattle.op_list.specs.declared.types.Stage.TheVariants.{Typed}
 use Rattle.op_list.specs.declared.values.Values.TheVariants.{Numbers, Fractions}
@@ -40,7 +40,7 @@ use Rattle.op_build.proofs.EncodePacked.{packed_fields}
 use Rattle.op_build.proofs.EncodePlaces.{fits_type, spare_place, component_place}
 use Rattle.op_build.proofs.EncodeRuns.{encode_by, placed_code, run_pack}
 use Rattle.op_build.proofs.FieldValues.{word_field}
-use Rattle.op_build.proofs.Lists.{get_or-four}
+use Rattle.op_list.proofs.Four.{get_or-four}
 use Rattle.op_build.proofs.Shapes.{has_places, component_field, word_type_is}
 use Rattle.op_build.proofs.WordBits.{bit_in_order, word_place, word_end}
 use Rattle.op_build.proofs.WordShape.{HasWord, sum-widths, length-field_widths, rest_below}
@@ -70,7 +70,7 @@ no_width : (desc : Desc) (p : ℕ) → p < 4 → length (fields desc) ≤ p → 
 unfolding field_widths
 no_width desc p below past = get_or-four (λ k. (get_or (fields desc) k no_field).width) p 0 below ∙ ap (λ f. f.width) (get_or_past (fields desc) p no_field past)
 
-module _ (desc : Desc) (place : Place) (value : ℕ → ℕ → ℕ → ℕ) (vs : ℕ → ℚ) (gives : GivesValues desc place value vs) (is : HasWord desc) where
+module _ (desc : Desc) (place : PixelPosition) (value : ℕ → ℕ → ℕ → ℕ) (vs : ℕ → ℚ) (gives : GivesValues desc place value vs) (is : HasWord desc) where
   abbrev laid : IsLaidOut desc
   laid = laid_out desc gives.valid
 

@@ -100,7 +100,7 @@ index_count false true n counted = eqb-true n 1 counted
 index_count false false n counted = absurd cc
 index_count true alpha n counted = absurd cc
 
-palette_frame : (desc : Desc) (width rows : ℕ) → IsValid desc → desc.palette ≡ true → frame_length desc width rows ≡ width * rows + 1024
+pub palette_frame : (desc : Desc) (width rows : ℕ) → IsValid desc → desc.palette ≡ true → frame_length desc width rows ≡ width * rows + 1024
 unfolding frame_length
 palette_frame desc width rows valid palette =
     let laid = laid_out desc valid in

@@ -19,10 +19,10 @@ use Rattle.colour_matrix.proofs.LevelLaws.{scale_positive}
 use Rattle.pix_desc.specs.Layouts.{IsValid}
 use Rattle.pix_meaning.specs.declared.pair.Side.{Side}
 use Rattle.pix_meaning.specs.Pairs.{class_of}
-use Rattle.op_build.specs.Bounds.{HasBound, bound}
+use Rattle.op_range.specs.FractionBounds.{HasBound, bound}
 use Rattle.op_build.specs.LevelSizes.{AreSmall}
 use Rattle.op_build.specs.Recipe.{channel_levels, channel_depth}
-use Rattle.op_build.proofs.BoundFractions.{nat_bound, raised, numerator_most, denominator_most}
+use Rattle.op_range.proofs.FractionBounds.{nat_bound, raised, numerator_most, denominator_most}
 use Rattle.op_build.proofs.Depths.{channel_depth_small, channel_depth_some}
 
 -- ---- the levels

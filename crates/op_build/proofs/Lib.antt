@@ -35,8 +35,6 @@ pub mod Layouts
 pub mod FieldSteps
 pub mod SlotPlaces
 pub mod Depths
-pub mod BoundFractions
-pub mod BoundSteps
 pub mod BoundClasses
 pub mod LevelSizes
 pub mod Means

@@ -8,26 +8,6 @@ use Rattle.std.proofs.lemmas.List.Sums.{position_or_len_is, fails_before_first, 
 use Rattle.std.proofs.lemmas.Option.{slice_get-get_or, slice_get_within, get_or_from_slice_get}
 use Rattle.op_list.specs.Values.{four}
 
--- element i of a list of four
-pub get_or-four : {A : Type 0} (f : ℕ → A) (i : ℕ) (d : A) → i < 4 → get_or (four f) i d ≡ f i
-get_or-four f zero d below = refl
-get_or-four f (suc zero) d below = refl
-get_or-four f (suc (suc zero)) d below = refl
-get_or-four f (suc (suc (suc zero))) d below = refl
-get_or-four f (suc (suc (suc (suc i)))) d below = absurd (omega arith)
-
--- lists of four whose elements agree
-pub same_fours : {A : Type 0} (f g : ℕ → A) → ((i : ℕ) → i < 4 → f i ≡ g i) → four f ≡ four g
-same_fours f g same = let first = same 0 (omega arith) in let second = same 1 (omega arith) in let third = same 2 (omega arith) in let fourth = same 3 (omega arith) in cc
-
--- four tests that hold
-pub four_hold : (test : ℕ → Bool) → ((i : ℕ) → i < 4 → test i ≡ true) → (test 0 && (test 1 && (test 2 && (test 3 && true)))) ≡ true
-four_hold test each =
-    and_from (test 0) (test 1 && (test 2 && (test 3 && true))) (each 0 (omega arith))
-    (and_from (test 1) (test 2 && (test 3 && true)) (each 1 (omega arith))
-    (and_from (test 2) (test 3 && true) (each 2 (omega arith))
-    (and_from (test 3) true (each 3 (omega arith)) refl)))
-
 -- number k of a range
 pub get_or-range : (n k : ℕ) → k < n → get_or (range_with_len 0 n) k 0 ≡ k
 get_or-range n k within = omega (arith, get_or-range_with_len 0 n k 0 within)

@@ -6,29 +6,20 @@ use Rattle.pix_meaning.specs.Pairs.{IsValidPair}
 use Rattle.pix_meaning.specs.Target.{result_of, target_rows}
 use Rattle.pix_meaning.proofs.TargetLaws.{results_fit}
 use Rattle.op_list.specs.declared.op.Op.{Op}
-use Rattle.op_list.specs.declared.place.Place.{Place}
+use Rattle.op_list.specs.declared.position.PixelPosition.{PixelPosition}
 use Rattle.op_list.specs.declared.types.Stage.TheVariants.{Start}
 use Rattle.op_list.specs.declared.values.Values.TheVariants.{Numbers, Fractions}
 use Rattle.op_list.specs.Values.{four, number, no_values}
 use Rattle.op_list.specs.Typing.{stage_from}
 use Rattle.op_list.specs.Run.{run, run_from}
-use Rattle.op_list.proofs.Exact.{run_from-append}
-use Rattle.op_list.proofs.Pushed.{stage_from-append}
+use Rattle.op_list.proofs.Runs.{run_from-three}
 use Rattle.op_build.specs.Recipe.{decode, convert, encode, recipe}
 use Rattle.op_build.specs.Meaning.{elements_at, MeansItsTarget}
 use Rattle.op_build.proofs.Decode.{decode_gives}
 use Rattle.op_build.proofs.Convert.{convert_gives, coded}
 use Rattle.op_build.proofs.Encode.{encode_gives}
 
--- a list of three parts
-three_parts : (frame : List ℕ) (place : Place) (first second third : List Op) → run_from frame place Start (first ++ second ++ third) no_values
-    ≡ run_from frame place (stage_from (stage_from Start first) second) third (run_from frame place (stage_from Start first) second (run_from frame place Start first no_values))
-three_parts frame place first second third =
-    run_from-append frame place Start (first ++ second) third no_values
-    ∙ ap (λ stage. run_from frame place stage third (run_from frame place Start (first ++ second) no_values)) (stage_from-append Start first second)
-    ∙ ap (run_from frame place (stage_from (stage_from Start first) second) third) (run_from-append frame place Start first second no_values)
-
-recipe_run : (pair : Pair) (frame : List ℕ) (place : Place) (first : ℕ) → IsValidPair pair → pair.to.desc.palette ≡ false → All (λ byte. byte < 256) frame → place.y ≡ first + place.row
+recipe_run : (pair : Pair) (frame : List ℕ) (place : PixelPosition) (first : ℕ) → IsValidPair pair → pair.to.desc.palette ≡ false → All (λ byte. byte < 256) frame → place.y ≡ first + place.row
     → place.x < place.width → place.row < place.rows
     → run_from frame place Start (recipe pair) no_values
     ≡ Numbers (elements_at pair.to.desc (frame_of pair.to.desc place.width place.rows (result_of pair place.width place.rows first frame)) place.width place.rows place.x place.row)
@@ -36,7 +27,7 @@ unfolding recipe
 recipe_run pair frame place first valid none bytes dither across down =
     let stage = stage_from Start (decode pair.from.desc) in
     let gives = convert_gives pair frame place stage first valid none dither in
-    three_parts frame place (decode pair.from.desc) (convert pair) (encode pair.to.desc)
+    run_from-three frame place Start (decode pair.from.desc) (convert pair) (encode pair.to.desc) no_values
     ∙ ap (λ values. run_from frame place (stage_from stage (convert pair)) (encode pair.to.desc) (run_from frame place stage (convert pair) values)) (decode_gives pair.from.desc frame place valid.from bytes)
     ∙ ap (run_from frame place (stage_from stage (convert pair)) (encode pair.to.desc)) gives.values
     ∙ ap (λ s. run_from frame place s (encode pair.to.desc) (Fractions (four (coded pair place.width place.rows frame place.x place.row place.y)))) gives.rational

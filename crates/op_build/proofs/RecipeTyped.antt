@@ -21,6 +21,7 @@ use Rattle.op_list.specs.declared.types.Stage.{Stage}
 use Rattle.op_list.specs.declared.types.Stage.TheVariants.{Start, Typed, Ended}
 use Rattle.op_list.specs.Types.{bits, is_whole_type, is_wide, is_rational, is_same}
 use Rattle.op_list.specs.Typing.{may_follow, are_good, are_counts, are_typed, all_fit, entry_fits, stage_after, stage_from, IsOpList}
+use Rattle.op_list.proofs.Typed.{IsTyped, no_operations, one_more, one_more_if, both_parts}
 use Rattle.op_build.specs.Shape.{element_type, element_counts, field_widths, is_swapped, slots}
 use Rattle.op_build.specs.Codes.{decoded_type}
 use Rattle.op_build.specs.Recipe.{decode, convert, encode, recipe, only_if, from_codes, to_codes, to_places, source_of, spare_zero, spare_zeros}
@@ -28,54 +29,10 @@ use Rattle.op_build.proofs.Decode.{decode_stage}
 use Rattle.op_build.proofs.DecodeTyped.{decode_typed}
 use Rattle.op_build.proofs.ElementPlaces.{HasElements}
 use Rattle.op_build.proofs.EncodePlaces.{channel_below}
-use Rattle.op_build.proofs.Lists.{four_hold}
+use Rattle.op_list.proofs.Four.{four_hold}
 use Rattle.op_build.proofs.Shapes.{first_size, has_layout, has_places, has_type, element_counts_are_good, field_widths_are_good}
 use Rattle.op_build.proofs.WordBits.{number_end}
 use Rattle.op_build.proofs.WordShape.{HasWord}
-
--- A list may follow a stage, leaves another one, and has at most so many operations.
-pub record IsTyped (stage : Stage) (ops : List Op) (last : Stage) (most : ℕ) : Type 0 where
-  pub typed : are_typed stage ops ≡ true
-  pub leaves : stage_from stage ops ≡ last
-  pub size : length ops ≤ most
-
-pub no_operations : (stage : Stage) → IsTyped stage [] stage 0
-unfolding are_typed stage_from
-no_operations stage = record { typed = refl; leaves = refl; size = omega arith }
-
--- an operation in front
-pub one_more : (stage next last : Stage) (op : Op) (ops : List Op) (most : ℕ) → may_follow stage op ≡ true → are_good stage op ≡ true → stage_after stage op ≡ next
-    → IsTyped next ops last most → IsTyped stage (op ∷ ops) last (most + 1)
-unfolding are_typed stage_from
-one_more stage next last op ops most follows good after rest = record {
-  typed = and_from (may_follow stage op && are_good stage op) (are_typed (stage_after stage op) ops) (and_from (may_follow stage op) (are_good stage op) follows good)
-      (ap (λ s. are_typed s ops) after ∙ rest.typed);
-  leaves = ap (λ s. stage_from s ops) after ∙ rest.leaves;
-  size = omega (arith, rest.size);
-}
-
--- an operation in front, where there is need of it
-pub one_more_if : (needed : Bool) (stage last : Stage) (op : Op) (ops : List Op) (most : ℕ) → (needed ≡ true → may_follow stage op ≡ true) → are_good stage op ≡ true → stage_after stage op ≡ stage
-    → IsTyped stage ops last most → IsTyped stage (only_if needed op ++ ops) last (most + 1)
-one_more_if true stage last op ops most follows good after rest = one_more stage stage last op ops most (follows refl) good after rest
-one_more_if false stage last op ops most follows good after rest = record { typed = rest.typed; leaves = rest.leaves; size = omega (arith, rest.size) }
-
--- one list behind another
-pub both_parts : (stage middle last : Stage) (first second : List Op) (most more : ℕ) → IsTyped stage first middle most → IsTyped middle second last more
-    → IsTyped stage (first ++ second) last (most + more)
-unfolding are_typed stage_from
-both_parts stage middle last [] second most more front back =
-    let there : IsTyped stage second last more = subst (λ s. IsTyped s second last more) (sym front.leaves) back in
-    record { typed = there.typed; leaves = there.leaves; size = omega (arith, there.size) }
-both_parts stage middle last (op ∷ first) second most more front back =
-    let tests = and_parts (may_follow stage op && are_good stage op) (are_typed (stage_after stage op) first) front.typed in
-    let rest = both_parts (stage_after stage op) middle last first second (most - 1) more
-    (record { typed = tests.1; leaves = front.leaves; size = omega (arith, front.size) }) back in
-    record {
-      typed = and_from (may_follow stage op && are_good stage op) (are_typed (stage_after stage op) (first ++ second)) tests.0 rest.typed;
-      leaves = rest.leaves;
-      size = omega (arith, rest.size, front.size);
-    }
 
 -- ---- the first part
 

@@ -5,7 +5,7 @@ use Rattle.op_list.specs.declared.op.Op.{Op}
 use Rattle.op_list.specs.Typing.{IsOpList}
 use Rattle.op_build.specs.Recipe.{only_if}
 use Rattle.op_build.specs.Steps.{step_if, operations}
-use Rattle.op_build.proofs.Fronts.{front_is_list}
+use Rattle.op_list.proofs.Typed.{front_is_list}
 
 pub operations-append : (first second : List (Option Op)) → operations (first ++ second) ≡ operations first ++ operations second
 operations-append [] second = refl

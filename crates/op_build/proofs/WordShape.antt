@@ -16,7 +16,7 @@ use Rattle.pix_desc.proofs.ComponentLists.{list_all-map_true}
 use Rattle.op_list.specs.Typing.{are_counts}
 use Rattle.op_list.specs.Values.{four}
 use Rattle.op_build.specs.Shape.{Field, element_bytes, element_counts, element_slot, end_of, fields, field_widths, no_field, slots}
-use Rattle.op_build.proofs.Lists.{get_or-four}
+use Rattle.op_list.proofs.Four.{get_or-four}
 use Rattle.op_build.proofs.Counts.{counts_are, in_front, good_counts}
 use Rattle.op_build.proofs.Planes.{plane_zero, no_other_plane}
 use Rattle.op_build.proofs.WordBits.{word_apart, word_end}

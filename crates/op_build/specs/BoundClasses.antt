@@ -16,7 +16,7 @@ use Rattle.op_list.specs.declared.op.Op.{Op}
 use Rattle.op_list.specs.declared.op.Op.TheVariants.{Dither, Linear}
 use Rattle.op_list.specs.Values.{four}
 use Rattle.op_build.specs.Recipe.{only_if, channel_depth, from_codes_by, to_codes_by, over_three}
-use Rattle.op_build.specs.Bounds.{Bound, bound, bounds_after, bounds_from}
+use Rattle.op_range.specs.FractionBounds.{FractionBound, bound, bounds_after, bounds_from}
 
 -- whether the channels are red, green and blue, the depths of the four channels, the range and the matrix
 pub record SideClass : Type 0 where
@@ -50,7 +50,7 @@ source_ops k = from_codes_by (class_levels k) ∷ only_if (not k.rgb) (Linear (o
 abbrev pub target_rows_ops : SideClass → List Op
 target_rows_ops k = only_if (not k.rgb) (Linear (over_three (from_rgb_rows k.matrix)))
 
-abbrev pub code_bounds : (ℕ → ℕ) → List Bound
+abbrev pub code_bounds : (ℕ → ℕ) → List FractionBound
 code_bounds depth = four (λ c. bound 1 (2 ^ depth c - 1))
 
 -- ---- the test
@@ -63,7 +63,7 @@ abbrev pub test_then : {A : Type 0} → Option A → (A → Bool) → Bool
 test_then None f = false
 test_then (Some x) f = f x
 
-unfoldable pub target_fits : List Bound → SideClass → Bool
+unfoldable pub target_fits : List FractionBound → SideClass → Bool
 target_fits bounds to =
     test_then (bounds_from (target_rows_ops to) bounds) (λ values. test_then (bounds_after (to_codes_by (class_levels to)) values) (λ codes. is_there (bounds_after (Dither 4) codes)))
 

@@ -4,7 +4,7 @@ use Rattle.pix_desc.specs.declared.desc.Desc.{Desc}
 use Rattle.pix_desc.specs.Layouts.{IsValid}
 use Rattle.pix_meaning.specs.Pairs.{has_channel, component_at}
 use Rattle.pix_meaning.specs.Values.{source_component}
-use Rattle.op_list.specs.declared.place.Place.{Place}
+use Rattle.op_list.specs.declared.position.PixelPosition.{PixelPosition}
 use Rattle.op_list.specs.declared.types.PixType.{PixType}
 use Rattle.op_list.specs.declared.types.PixType.TheVariants.{U8}
 use Rattle.op_list.specs.declared.types.Stage.TheVariants.{Start, Typed}
@@ -22,7 +22,7 @@ code_of desc width rows frame x row c =
     if has_channel desc c then source_component desc width rows frame (component_at desc c) x row else missing_code desc c
 
 -- decoding gives the codes of the channels at a pixel
-abbrev pub GivesCodes : Desc → List ℕ → Place → Type 0
+abbrev pub GivesCodes : Desc → List ℕ → PixelPosition → Type 0
 GivesCodes desc frame place = IsValid desc → All (λ byte. byte < 256) frame
     → run_from frame place Start (decode desc) no_values ≡ Numbers (four (code_of desc place.width place.rows frame place.x place.row))
 

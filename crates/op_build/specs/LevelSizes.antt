@@ -2,7 +2,7 @@
 use Rattle.std.specs.Prelude.{◌^◌}
 use Rattle.frac_math.specs.Fraction.{nat, ◌<ℚ◌}
 use Rattle.colour_matrix.specs.declared.class.Levels.{Levels}
-use Rattle.op_build.specs.Bounds.{HasBound, bound}
+use Rattle.op_range.specs.FractionBounds.{HasBound, bound}
 
 -- the scale is above 0, and both are numbers of at most 24 bits over 256
 pub record AreSmall (l : Levels) : Type 0 where

@@ -3,7 +3,7 @@ ghost use Rattle.std.specs.Prelude.{◌≡◌, true, false, ℕ, ℤ, List};
 ghost use Rattle.std.specs.Int.{int_min, int_max};
 ghost use Rattle.frac_math.specs.Fraction.{ℚ, whole, min_ℚ, max_ℚ, floor};
 ghost use Rattle.pix_desc.specs.declared.desc.Desc.{Desc};
-ghost use Rattle.op_list.specs.declared.place.Place.{Place};
+ghost use Rattle.op_list.specs.declared.position.PixelPosition.{PixelPosition};
 ghost use Rattle.pix_meaning.specs.declared.pair.Pair.{Pair};
 ghost use Rattle.pix_meaning.specs.Pairs.{IsValidPair};
 ghost use Rattle.pix_desc.specs.Layouts.{IsValid};
@@ -15,7 +15,7 @@ ghost use Rattle.op_build.specs.Recipe.{recipe};
 
 /// At every pixel of a frame of bytes, the first part of the recipe gives the codes of the channels that are read there.
 pub fn decoding_gives_codes()
-    ensures { (desc : Desc) (frame : List ℕ) (place : Place) → GivesCodes desc frame place }
+    ensures { (desc : Desc) (frame : List ℕ) (place : PixelPosition) → GivesCodes desc frame place }
 {}
 
 /// It leaves values of a whole type.

@@ -1,5 +1,6 @@
 -- What an operation that may be applied is given.
-use Rattle.std.proofs.Common.{◌≡◌, ℕ, ◌<◌, ◌≤◌, Bool, true, false, ◌&&◌, ◌||◌, nat_lt, nat_le, List, All, sum, get_or, refl, sym, ◌∙◌, arith, ◌⊎◌, inl, inr}
+use Rattle.std.proofs.Common.{◌≡◌, ℕ, ◌<◌, ◌≤◌, Bool, true, false, ◌&&◌, ◌||◌, nat_lt, nat_le, List, All, sum, get_or, refl, sym, ◌∙◌}
+use Rattle.std.proofs.Common.{arith, ◌⊎◌, inl, inr}
 use Rattle.std.specs.Prelude.{Option}
 use Rattle.std.proofs.lemmas.Bool.{and_parts, leb-true, ltb-true}
 use Rattle.std.proofs.lemmas.List.Sums.{AllPass-from_list_all}
@@ -8,9 +9,10 @@ use Rattle.op_list.specs.declared.types.PixType.{PixType}
 use Rattle.op_list.specs.declared.types.PixType.TheVariants.{U8, U16, U32, Rat}
 use Rattle.op_list.specs.declared.types.Stage.{Stage}
 use Rattle.op_list.specs.declared.types.Stage.TheVariants.{Start, Typed, Ended}
-use Rattle.op_list.specs.declared.place.Place.{Place}
+use Rattle.op_list.specs.declared.position.PixelPosition.{PixelPosition}
 use Rattle.op_list.specs.declared.op.Op.{Op}
-use Rattle.op_list.specs.declared.op.Op.TheVariants.{Read, Write, SwapBytes, Unpack, Pack, Clear, LeftShift, RightShift, Swizzle, Convert, Dither, Linear, Scale, Min, Max}
+use Rattle.op_list.specs.declared.op.Op.TheVariants.{Read, Write, SwapBytes, Unpack, Pack, Clear, LeftShift, RightShift, Swizzle, Convert}
+use Rattle.op_list.specs.declared.op.Op.TheVariants.{Dither, Linear, Scale, Min, Max}
 use Rattle.op_list.specs.declared.values.Values.{Values}
 use Rattle.op_list.specs.Types.{bits_at, is_whole_type, has_type, is_whole, is_wide, is_rational}
 use Rattle.op_list.specs.Typing.{may_follow, are_good, are_counts, are_in_front, all_fit}
@@ -72,9 +74,11 @@ takes_numbers (LeftShift n) = true
 takes_numbers (RightShift n) = true
 takes_numbers _ = false
 
-pub whole_before : (stage : Stage) (op : Op) → takes_numbers op ≡ true → may_follow stage op ≡ true → are_good stage op ≡ true → is_whole stage ≡ true
+pub whole_before : (stage : Stage) (op : Op) → takes_numbers op ≡ true → may_follow stage op ≡ true → are_good stage op ≡ true
+    → is_whole stage ≡ true
 unfolding may_follow are_good
-whole_before stage (Write elem planes) t follows good = same_whole elem stage follows (and_parts (is_whole_type elem) (are_counts 4 planes) good).0
+whole_before stage (Write elem planes) t follows good =
+    same_whole elem stage follows (and_parts (is_whole_type elem) (are_counts 4 planes) good).0
 whole_before stage SwapBytes t follows good = wide_whole stage follows
 whole_before stage (Unpack widths) t follows good = follows
 whole_before stage (Pack widths) t follows good = follows
@@ -90,14 +94,17 @@ whole_before stage (Scale by) t follows good = cc
 whole_before stage (Min limits) t follows good = cc
 whole_before stage (Max limits) t follows good = cc
 
-pub numbers_before : (frame : List ℕ) (place : Place) (stage : Stage) (op : Op) (values : Values) → MayApply frame place stage op values → takes_numbers op ≡ true → are_fractions values ≡ false
-numbers_before frame place stage op values h t = h.kind ∙ whole_not_rational stage (whole_before stage op t h.follows h.good)
+pub numbers_before : (frame : List ℕ) (position : PixelPosition) (stage : Stage) (op : Op) (values : Values)
+    → MayApply frame position stage op values → takes_numbers op ≡ true → are_fractions values ≡ false
+numbers_before frame position stage op values h t = h.kind ∙ whole_not_rational stage (whole_before stage op t h.follows h.good)
 
 -- ---- the arguments
-pub read_pixel : (frame : List ℕ) (place : Place) (stage : Stage) (elem : PixType) (planes : List ℕ) (palette : Bool) (values : Values)
-    → MayApply frame place stage (Read elem planes palette) values → IsPixelOf elem planes palette frame place
+pub read_pixel : (frame : List ℕ) (position : PixelPosition) (stage : Stage) (elem : PixType) (planes : List ℕ) (palette : Bool)
+    (values : Values)
+    → MayApply frame position stage (Read elem planes palette) values → IsPixelOf elem planes palette frame position
 unfolding may_follow are_good
-read_pixel frame place stage elem planes palette values h = record { column = h.column; row = h.row; good = h.good; size = h.size h.follows }
+read_pixel frame position stage elem planes palette values h =
+    record { column = h.column; row = h.row; good = h.good; size = h.size h.follows }
 
 counts_most : (stage : Stage) (ns : List ℕ) → are_counts (bits_at stage) ns ≡ true → sum ns ≤ 32
 counts_most stage ns h =
@@ -124,14 +131,15 @@ pub dither_levels : (stage : Stage) (k : ℕ) → are_good stage (Dither k) ≡ 
 unfolding are_good
 dither_levels stage k h = leb-true k 4 h
 
-pub swizzle_places : (stage : Stage) (from : List ℕ) → are_good stage (Swizzle from) ≡ true → All (λ i. i < 4) from
+pub swizzle_lanes : (stage : Stage) (from : List ℕ) → are_good stage (Swizzle from) ≡ true → All (λ i. i < 4) from
 unfolding are_good
-swizzle_places stage from h = λ k d within. ltb-true (get_or from k d) 4 (AllPass-from_list_all (λ i. nat_lt i 4) from h k d within)
+swizzle_lanes stage from h = λ k d within. ltb-true (get_or from k d) 4 (AllPass-from_list_all (λ i. nat_lt i 4) from h k d within)
 
-pub clear_entries : (frame : List ℕ) (place : Place) (stage : Stage) (entries : List (Option ℚ)) (values : Values)
-    → MayApply frame place stage (Clear entries) values → are_fractions values ≡ false → all_fit (bits_at stage) entries ≡ true
+pub clear_entries : (frame : List ℕ) (position : PixelPosition) (stage : Stage) (entries : List (Option ℚ)) (values : Values)
+    → MayApply frame position stage (Clear entries) values → are_fractions values ≡ false → all_fit (bits_at stage) entries ≡ true
 unfolding are_good
-clear_entries frame place stage entries values h numbers = entries_fit (is_rational stage) (sym h.kind ∙ numbers) (all_fit (bits_at stage) entries) h.good
+clear_entries frame position stage entries values h numbers =
+    entries_fit (is_rational stage) (sym h.kind ∙ numbers) (all_fit (bits_at stage) entries) h.good
   where
     entries_fit : (rational : Bool) → rational ≡ false → (fit : Bool) → (rational || fit) ≡ true → fit ≡ true
     entries_fit true e fit h = cc

@@ -11,8 +11,10 @@ placed_below value width below =
     omega (arith, scaled, pow-add 2 width below)
 
 -- four fields fit 32 bits where their widths do
-pub packed_below : (first second third fourth width0 width1 width2 width3 below0 below1 below2 : ℕ) → width0 + below0 ≤ 32 → width1 + below1 ≤ below0 → width2 + below2 ≤ below1 → width3 ≤ below2
-    → first + 2 ^ below0 ≤ 2 ^ (width0 + below0) → second + 2 ^ below1 ≤ 2 ^ (width1 + below1) → third + 2 ^ below2 ≤ 2 ^ (width2 + below2) → fourth + 2 ^ 0 ≤ 2 ^ (width3 + 0)
+pub packed_below : (first second third fourth width0 width1 width2 width3 below0 below1 below2 : ℕ) → width0 + below0 ≤ 32
+    → width1 + below1 ≤ below0 → width2 + below2 ≤ below1 → width3 ≤ below2
+    → first + 2 ^ below0 ≤ 2 ^ (width0 + below0) → second + 2 ^ below1 ≤ 2 ^ (width1 + below1) → third + 2 ^ below2 ≤ 2 ^ (width2 + below2)
+    → fourth + 2 ^ 0 ≤ 2 ^ (width3 + 0)
     → first + second + third + fourth < 2 ^ 32
 packed_below first second third fourth width0 width1 width2 width3 below0 below1 below2 all fits1 fits2 fits3 p0 p1 p2 p3 =
     let two : 0 < 2 = omega arith in

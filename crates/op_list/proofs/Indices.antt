@@ -8,19 +8,22 @@ use Rattle.op_list.specs.Pixel.{element_in}
 use Rattle.op_list.proofs.Elements.{sum-cons, in_first, in_rest}
 
 -- those of the first plane lie before its end
-first_below : (pixels pixel before n i : ℕ) (planes : List ℕ) → pixel < pixels → i < n → element_in pixels pixel before (n ∷ planes) i < pixels * (before + n)
+first_below : (pixels pixel before n i : ℕ) (planes : List ℕ) → pixel < pixels → i < n
+    → element_in pixels pixel before (n ∷ planes) i < pixels * (before + n)
 first_below pixels pixel before n i planes inside here =
     let row : pixel * n + i < n * pixels = mul-add-lt pixel n i pixels inside here in
     omega (arith, row, in_first pixels pixel before n i planes here)
 
 -- each lies behind the planes that are passed over
-pub index_from : (pixels pixel before : ℕ) (planes : List ℕ) (i : ℕ) → i < sum planes → pixels * before ≤ element_in pixels pixel before planes i
+pub index_from : (pixels pixel before : ℕ) (planes : List ℕ) (i : ℕ) → i < sum planes
+    → pixels * before ≤ element_in pixels pixel before planes i
 index_from pixels pixel before [] i within = absurd (omega (arith, within))
 index_from pixels pixel before (n ∷ planes) i within =
     ⊎_elim
     (λ (here : i < n). omega (arith, in_first pixels pixel before n i planes here))
     (λ (later : n ≤ i).
-    let rest : pixels * (before + n) ≤ element_in pixels pixel (before + n) planes (i - n) = index_from pixels pixel (before + n) planes (i - n) (omega (arith, within, later, sum-cons n planes)) in
+    let rest : pixels * (before + n) ≤ element_in pixels pixel (before + n) planes (i - n) =
+    index_from pixels pixel (before + n) planes (i - n) (omega (arith, within, later, sum-cons n planes)) in
     omega (arith, rest, in_rest pixels pixel before n i planes later))
     (cases_lt i n)
 
@@ -29,7 +32,8 @@ pub index_below : (pixels pixel before : ℕ) (planes : List ℕ) (i : ℕ) → 
     → element_in pixels pixel before planes i < pixels * (before + sum planes)
 index_below pixels pixel before [] i inside within = absurd (omega (arith, within))
 index_below pixels pixel before (n ∷ planes) i inside within =
-    let all : pixels * (before + sum (n ∷ planes)) ≡ pixels * (before + n) + pixels * sum planes = omega (arith, ap (λ t. pixels * t) (sum-cons n planes)) in
+    let all : pixels * (before + sum (n ∷ planes)) ≡ pixels * (before + n) + pixels * sum planes =
+    omega (arith, ap (λ t. pixels * t) (sum-cons n planes)) in
     ⊎_elim
     (λ (here : i < n). omega (arith, all, first_below pixels pixel before n i planes inside here))
     (λ (later : n ≤ i).
@@ -42,7 +46,8 @@ index_below pixels pixel before (n ∷ planes) i inside within =
 first_before_rest : (pixels x y before n i j : ℕ) (planes : List ℕ) → x < pixels → i < n → n ≤ j → j < sum (n ∷ planes)
     → element_in pixels x before (n ∷ planes) i < element_in pixels y before (n ∷ planes) j
 first_before_rest pixels x y before n i j planes inside here later within =
-    let rest : pixels * (before + n) ≤ element_in pixels y (before + n) planes (j - n) = index_from pixels y (before + n) planes (j - n) (omega (arith, within, later, sum-cons n planes)) in
+    let rest : pixels * (before + n) ≤ element_in pixels y (before + n) planes (j - n) =
+    index_from pixels y (before + n) planes (j - n) (omega (arith, within, later, sum-cons n planes)) in
     omega (arith, rest, first_below pixels x before n i planes inside here, in_rest pixels y before n j planes later)
 
 -- an element of the frame is one element of one pixel
@@ -54,7 +59,8 @@ same_index pixels x y before (n ∷ planes) i j inside other within more same =
     (λ (here : i < n).
     ⊎_elim
     (λ (near : j < n).
-    same_from_place x i y j n here near (omega (arith, same, in_first pixels x before n i planes here, in_first pixels y before n j planes near)))
+    same_from_place x i y j n here near
+    (omega (arith, same, in_first pixels x before n i planes here, in_first pixels y before n j planes near)))
     (λ (far : n ≤ j). absurd (omega (arith, same, first_before_rest pixels x y before n i j planes inside here far more)))
     (cases_lt j n))
     (λ (later : n ≤ i).
@@ -62,7 +68,8 @@ same_index pixels x y before (n ∷ planes) i j inside other within more same =
     (λ (near : j < n). absurd (omega (arith, same, first_before_rest pixels y x before n j i planes other near later within)))
     (λ (far : n ≤ j).
     let rest : (x ≡ y) × (i - n ≡ j - n) =
-    same_index pixels x y (before + n) planes (i - n) (j - n) inside other (omega (arith, within, later, sum-cons n planes)) (omega (arith, more, far, sum-cons n planes))
+    same_index pixels x y (before + n) planes (i - n) (j - n) inside other (omega (arith, within, later, sum-cons n planes))
+    (omega (arith, more, far, sum-cons n planes))
     (sym (in_rest pixels x before n i planes later) ∙ same ∙ in_rest pixels y before n j planes far) in
     (rest.0, omega (arith, rest.1, later, far)))
     (cases_lt j n))
@@ -70,7 +77,8 @@ same_index pixels x y before (n ∷ planes) i j inside other within more same =
 
 -- a product with a number below it has no factor 0
 pub factor_positive : (m n k : ℕ) → k < m * n → 0 < n
-factor_positive m n k below = pos_of_ne-zero (λ (none : n ≡ 0). let empty : m * n ≡ m * 0 = ap (λ t. m * t) none in omega (arith, empty, below))
+factor_positive m n k below =
+    pos_of_ne-zero (λ (none : n ≡ 0). let empty : m * n ≡ m * 0 = ap (λ t. m * t) none in omega (arith, empty, below))
 
 -- Element k behind the planes that are passed over is element i of a pixel.
 pub record IsElementOf (pixels before : ℕ) (planes : List ℕ) (k pixel i : ℕ) : Type 0 where
@@ -78,7 +86,8 @@ pub record IsElementOf (pixels before : ℕ) (planes : List ℕ) (k pixel i : �
   pub within : i < sum planes
   pub index : element_in pixels pixel before planes i ≡ pixels * before + k
 
-in_first_plane : (pixels before n k : ℕ) (planes : List ℕ) → k < pixels * n → 0 < n → IsElementOf pixels before (n ∷ planes) k (k / n) (k % n)
+in_first_plane : (pixels before n k : ℕ) (planes : List ℕ) → k < pixels * n → 0 < n
+    → IsElementOf pixels before (n ∷ planes) k (k / n) (k % n)
 in_first_plane pixels before n k planes below some =
     let here : k % n < n = mod-lt k some in
     record {
@@ -87,11 +96,13 @@ in_first_plane pixels before n k planes below some =
       index = omega (arith, in_first pixels (k / n) before n (k % n) planes here, div-add-mod' k n);
     }
 
-in_later_plane : (pixels before n k pixel i : ℕ) (planes : List ℕ) → pixels * n ≤ k → IsElementOf pixels (before + n) planes (k - pixels * n) pixel i
+in_later_plane : (pixels before n k pixel i : ℕ) (planes : List ℕ) → pixels * n ≤ k
+    → IsElementOf pixels (before + n) planes (k - pixels * n) pixel i
     → IsElementOf pixels before (n ∷ planes) k pixel (i + n)
 in_later_plane pixels before n k pixel i planes later is =
     let back : i + n - n ≡ i = omega arith in
-    let rest : element_in pixels pixel (before + n) planes (i + n - n) ≡ pixels * (before + n) + (k - pixels * n) = ap (element_in pixels pixel (before + n) planes) back ∙ is.index in
+    let rest : element_in pixels pixel (before + n) planes (i + n - n) ≡ pixels * (before + n) + (k - pixels * n) =
+    ap (element_in pixels pixel (before + n) planes) back ∙ is.index in
     record {
       inside = is.inside;
       within = omega (arith, is.within, sum-cons n planes);
@@ -99,7 +110,8 @@ in_later_plane pixels before n k pixel i planes later is =
     }
 
 -- each element of a frame is one of a pixel
-pub each_index : (pixels before : ℕ) (planes : List ℕ) (k : ℕ) → k < pixels * sum planes → (pixel : ℕ) × (i : ℕ) × IsElementOf pixels before planes k pixel i
+pub each_index : (pixels before : ℕ) (planes : List ℕ) (k : ℕ) → k < pixels * sum planes
+    → (pixel : ℕ) × (i : ℕ) × IsElementOf pixels before planes k pixel i
 each_index pixels before [] k below = absurd (let none : pixels * 0 ≡ 0 = omega arith in omega (arith, below, none))
 each_index pixels before (n ∷ planes) k below =
     let all : pixels * sum (n ∷ planes) ≡ pixels * n + pixels * sum planes = omega (arith, ap (λ t. pixels * t) (sum-cons n planes)) in

@@ -1,5 +1,6 @@
 -- A list runs: each operation of it may be applied to what those before it leave.
-use Rattle.std.proofs.Common.{◌≡◌, ℕ, ◌+◌, ◌-◌, ◌<◌, Bool, true, false, ◌&&◌, List, [], ◌∷◌, length, get_or, drop, suc, add-one, drop-cons, subst, refl, sym, ◌∙◌, ap, arith}
+use Rattle.std.proofs.Common.{◌≡◌, ℕ, ◌+◌, ◌-◌, ◌<◌, Bool, true, false, ◌&&◌, List, [], ◌∷◌, length, get_or, drop, suc, add-one, drop-cons}
+use Rattle.std.proofs.Common.{subst, refl, sym, ◌∙◌, ap, arith}
 use Rattle.std.specs.Prelude.{Option, Some, None, slice_get, IsTrue, ◌↔◌}
 use Rattle.std.proofs.lemmas.Bool.{and_parts}
 use Rattle.std.proofs.lemmas.Option.{same_Some, none-some, option_and_then_some}
@@ -8,9 +9,10 @@ use Rattle.op_list.specs.declared.types.PixType.{PixType}
 use Rattle.op_list.specs.declared.types.PixType.TheVariants.{U8, U16, U32, Rat}
 use Rattle.op_list.specs.declared.types.Stage.{Stage}
 use Rattle.op_list.specs.declared.types.Stage.TheVariants.{Start, Typed, Ended}
-use Rattle.op_list.specs.declared.place.Place.{Place}
+use Rattle.op_list.specs.declared.position.PixelPosition.{PixelPosition}
 use Rattle.op_list.specs.declared.op.Op.{Op}
-use Rattle.op_list.specs.declared.op.Op.TheVariants.{Read, Write, SwapBytes, Unpack, Pack, Clear, LeftShift, RightShift, Swizzle, Convert, Dither, Linear, Scale, Min, Max}
+use Rattle.op_list.specs.declared.op.Op.TheVariants.{Read, Write, SwapBytes, Unpack, Pack, Clear, LeftShift, RightShift, Swizzle, Convert}
+use Rattle.op_list.specs.declared.op.Op.TheVariants.{Dither, Linear, Scale, Min, Max}
 use Rattle.op_list.specs.declared.values.Values.{Values}
 use Rattle.op_list.specs.declared.values.Values.TheVariants.{Numbers, Fractions}
 use Rattle.op_list.specs.Types.{is_start, is_rational, is_whole_type}
@@ -21,6 +23,8 @@ use Rattle.op_list.specs.Checked.{checked_apply}
 use Rattle.op_list.specs.Run.{MayApply, MayRun, checked_run_from, checked_run, read_length}
 use Rattle.op_list.proofs.Applied.{whole_not_rational, whole_before}
 use Rattle.op_list.proofs.Exact.{checked_apply-exact}
+use Rattle.op_list.proofs.Typed.{typed_parts}
+use Rattle.op_list.proofs.Wholes.{whole_ended}
 
 -- ---- the kind of the values
 cleared_kind : (entries : List (Option ℚ)) (values : Values) → are_fractions (cleared entries values) ≡ are_fractions values
@@ -42,25 +46,29 @@ converted_kind U32 expand (Numbers values) = refl
 converted_kind U32 expand (Fractions values) = refl
 
 -- the values after an operation are of the type that it leaves
-pub apply_kind : (frame : List ℕ) (place : Place) (stage : Stage) (op : Op) (values : Values) → are_fractions values ≡ is_rational stage
-    → may_follow stage op ≡ true → are_good stage op ≡ true → are_fractions (apply frame place stage op values) ≡ is_rational (stage_after stage op)
+pub apply_kind : (frame : List ℕ) (position : PixelPosition) (stage : Stage) (op : Op) (values : Values)
+    → are_fractions values ≡ is_rational stage
+    → may_follow stage op ≡ true → are_good stage op ≡ true
+    → are_fractions (apply frame position stage op values) ≡ is_rational (stage_after stage op)
 unfolding apply may_follow are_good stage_after
-apply_kind frame place stage (Read elem planes palette) values kind follows good =
-    sym (whole_not_rational (Typed elem) (and_parts (is_whole_type elem) (are_counts 4 planes) (and_parts (is_whole_type elem && are_counts 4 planes) _ good).0).0)
-apply_kind frame place stage (Write elem planes) values kind follows good = refl
-apply_kind frame place stage SwapBytes values kind follows good = sym (whole_not_rational stage (whole_before stage SwapBytes refl follows good))
-apply_kind frame place stage (Unpack widths) values kind follows good = sym (whole_not_rational stage follows)
-apply_kind frame place stage (Pack widths) values kind follows good = sym (whole_not_rational stage follows)
-apply_kind frame place stage (Clear entries) values kind follows good = cleared_kind entries values ∙ kind
-apply_kind frame place stage (LeftShift n) values kind follows good = sym (whole_not_rational stage follows)
-apply_kind frame place stage (RightShift n) values kind follows good = sym (whole_not_rational stage follows)
-apply_kind frame place stage (Swizzle from) values kind follows good = swizzled_kind from values ∙ kind
-apply_kind frame place stage (Convert to expand) values kind follows good = converted_kind to expand values
-apply_kind frame place stage (Dither k) values kind follows good = sym follows
-apply_kind frame place stage (Linear rows) values kind follows good = sym follows
-apply_kind frame place stage (Scale by) values kind follows good = sym follows
-apply_kind frame place stage (Min limits) values kind follows good = sym follows
-apply_kind frame place stage (Max limits) values kind follows good = sym follows
+apply_kind frame position stage (Read elem planes palette) values kind follows good =
+    sym (whole_not_rational (Typed elem)
+    (and_parts (is_whole_type elem) (are_counts 4 planes) (and_parts (is_whole_type elem && are_counts 4 planes) _ good).0).0)
+apply_kind frame position stage (Write elem planes) values kind follows good = refl
+apply_kind frame position stage SwapBytes values kind follows good =
+    sym (whole_not_rational stage (whole_before stage SwapBytes refl follows good))
+apply_kind frame position stage (Unpack widths) values kind follows good = sym (whole_not_rational stage follows)
+apply_kind frame position stage (Pack widths) values kind follows good = sym (whole_not_rational stage follows)
+apply_kind frame position stage (Clear entries) values kind follows good = cleared_kind entries values ∙ kind
+apply_kind frame position stage (LeftShift n) values kind follows good = sym (whole_not_rational stage follows)
+apply_kind frame position stage (RightShift n) values kind follows good = sym (whole_not_rational stage follows)
+apply_kind frame position stage (Swizzle from) values kind follows good = swizzled_kind from values ∙ kind
+apply_kind frame position stage (Convert to expand) values kind follows good = converted_kind to expand values
+apply_kind frame position stage (Dither k) values kind follows good = sym follows
+apply_kind frame position stage (Linear rows) values kind follows good = sym follows
+apply_kind frame position stage (Scale by) values kind follows good = sym follows
+apply_kind frame position stage (Min limits) values kind follows good = sym follows
+apply_kind frame position stage (Max limits) values kind follows good = sym follows
 
 -- ---- the stage
 -- no operation that may follow leaves an empty list
@@ -107,88 +115,51 @@ started Ended (Min limits) h = refl
 started Ended (Max limits) h = refl
 
 -- ---- one step of a run
-typed_parts : (stage : Stage) (op : Op) (ops : List Op) → are_typed stage (op ∷ ops) ≡ true → (may_follow stage op ≡ true) × (are_good stage op ≡ true) × (are_typed (stage_after stage op) ops ≡ true)
-unfolding are_typed
-typed_parts stage op ops h =
-    let p = and_parts (may_follow stage op && are_good stage op) (are_typed (stage_after stage op) ops) h in
-    let q = and_parts (may_follow stage op) (are_good stage op) p.0 in
-    (q.0, q.1, p.1)
-
-pub first_may_apply : (frame : List ℕ) (place : Place) (stage : Stage) (op : Op) (ops : List Op) (values : Values)
-    → MayRun frame place stage (op ∷ ops) values → MayApply frame place stage op values
-first_may_apply frame place stage op ops values h =
+pub first_may_apply : (frame : List ℕ) (position : PixelPosition) (stage : Stage) (op : Op) (ops : List Op) (values : Values)
+    → MayRun frame position stage (op ∷ ops) values → MayApply frame position stage op values
+first_may_apply frame position stage op ops values h =
     let t = typed_parts stage op ops h.typed in
     record { follows = t.0; good = t.1; kind = h.kind; column = h.column; row = h.row; size = h.size }
 
-pub rest_may_run : (frame : List ℕ) (place : Place) (stage : Stage) (op : Op) (ops : List Op) (values next : Values)
-    → MayRun frame place stage (op ∷ ops) values → checked_apply frame place stage op values ≡ Some next → MayRun frame place (stage_after stage op) ops next
-rest_may_run frame place stage op ops values next h is =
+pub rest_may_run : (frame : List ℕ) (position : PixelPosition) (stage : Stage) (op : Op) (ops : List Op) (values next : Values)
+    → MayRun frame position stage (op ∷ ops) values → checked_apply frame position stage op values ≡ Some next
+    → MayRun frame position (stage_after stage op) ops next
+rest_may_run frame position stage op ops values next h is =
     let t = typed_parts stage op ops h.typed in
     record {
       typed = t.2;
-      kind = ap are_fractions (sym (checked_apply-exact frame place stage op values next is)) ∙ apply_kind frame place stage op values h.kind t.0 t.1;
+      kind =
+          ap are_fractions (sym (checked_apply-exact frame position stage op values next is))
+          ∙ apply_kind frame position stage op values h.kind t.0 t.1;
       column = h.column;
       row = h.row;
       size = λ s. (let no = started stage op t.0 in cc);
     }
 
 -- the values that a run ends with
-pub last_kind : (frame : List ℕ) (place : Place) (stage : Stage) (ops : List Op) (values last : Values)
-    → MayRun frame place stage ops values → checked_run_from frame place stage ops values ≡ Some last → are_fractions last ≡ is_rational (stage_from stage ops)
+pub last_kind : (frame : List ℕ) (position : PixelPosition) (stage : Stage) (ops : List Op) (values last : Values)
+    → MayRun frame position stage ops values → checked_run_from frame position stage ops values ≡ Some last
+    → are_fractions last ≡ is_rational (stage_from stage ops)
 unfolding checked_run_from stage_from
-last_kind frame place stage [] values last h is = ap are_fractions (sym (same_Some values last is)) ∙ h.kind
-last_kind frame place stage (op ∷ ops) values last h is =
-    option_and_then_some _ (checked_apply frame place stage op values) last is
-    (λ next first rest. last_kind frame place (stage_after stage op) ops next last (rest_may_run frame place stage op ops values next h first) rest)
-
--- ---- a list that ends with a Write
-write_ends : (stage : Stage) (op : Op) → is_write op ≡ true → stage_after stage op ≡ Ended
-unfolding stage_after
-write_ends stage (Write elem planes) h = refl
-write_ends stage (Read elem planes palette) h = cc
-write_ends stage SwapBytes h = cc
-write_ends stage (Unpack widths) h = cc
-write_ends stage (Pack widths) h = cc
-write_ends stage (Clear values) h = cc
-write_ends stage (LeftShift n) h = cc
-write_ends stage (RightShift n) h = cc
-write_ends stage (Swizzle from) h = cc
-write_ends stage (Convert to expand) h = cc
-write_ends stage (Dither k) h = cc
-write_ends stage (Linear rows) h = cc
-write_ends stage (Scale by) h = cc
-write_ends stage (Min limits) h = cc
-write_ends stage (Max limits) h = cc
-
-pub whole_ended : (stage : Stage) (ops : List Op) → ends_with_write ops ≡ true → stage_from stage ops ≡ Ended
-unfolding ends_with_write stage_from
-whole_ended stage [] h = cc
-whole_ended stage (op ∷ []) h = write_ends stage op h
-whole_ended stage (op ∷ next ∷ ops) h = whole_ended (stage_after stage op) (next ∷ ops) h
+last_kind frame position stage [] values last h is = ap are_fractions (sym (same_Some values last is)) ∙ h.kind
+last_kind frame position stage (op ∷ ops) values last h is =
+    option_and_then_some _ (checked_apply frame position stage op values) last is
+    (λ next first rest. last_kind frame position (stage_after stage op) ops next last
+    (rest_may_run frame position stage op ops values next h first) rest)
 
 -- ---- the loop over a list
 pub next_op : {A : Type 0} (ops : List A) (k : ℕ) (op : A) → k < length ops → op ≡ get_or ops k op → drop k ops ≡ op ∷ drop (k + 1) ops
 next_op ops k op within is = rw add-one (subst (λ o. drop k ops ≡ o ∷ drop (suc k) ops) (sym is) (drop-cons ops k op within))
 
-pub run-none : (frame : List ℕ) (place : Place) (stage : Stage) (op : Op) (ops : List Op) (values : Values)
-    → checked_apply frame place stage op values ≡ None → checked_run_from frame place stage (op ∷ ops) values ≡ None
-unfolding checked_run_from
-run-none frame place stage op ops values is = rw is refl
-
-pub run-some : (frame : List ℕ) (place : Place) (stage : Stage) (op : Op) (ops : List Op) (values next : Values)
-    → checked_apply frame place stage op values ≡ Some next → checked_run_from frame place stage (op ∷ ops) values ≡ checked_run_from frame place (stage_after stage op) ops next
-unfolding checked_run_from
-run-some frame place stage op ops values next is = rw is refl
-
-pub run_end : (frame : List ℕ) (place : Place) (stage : Stage) (values : Values) → checked_run_from frame place stage [] values ≡ Some values
-unfolding checked_run_from
-run_end frame place stage values = refl
-
 -- ---- a whole list
-pub whole_numbers : (ops : List Op) (frame : List ℕ) (place : Place) (last : Values) → IsOpList ops → ends_with_write ops ≡ true → place.x < place.width → place.row < place.rows
-    → length frame ≡ read_length ops place.width place.rows → checked_run_from frame place Start ops no_values ≡ Some last → are_fractions last ≡ false
-whole_numbers ops frame place last sound whole column row size is =
-    last_kind frame place Start ops no_values last (record { typed = sound.typed; kind = refl; column = column; row = row; size = λ s. size }) is ∙ ap is_rational (whole_ended Start ops whole)
+pub whole_numbers : (ops : List Op) (frame : List ℕ) (position : PixelPosition) (last : Values) → IsOpList ops → ends_with_write ops ≡ true
+    → position.x < position.width → position.row < position.rows
+    → length frame ≡ read_length ops position.width position.rows → checked_run_from frame position Start ops no_values ≡ Some last
+    → are_fractions last ≡ false
+whole_numbers ops frame position last sound whole column row size is =
+    last_kind frame position Start ops no_values last
+    (record { typed = sound.typed; kind = refl; column = column; row = row; size = λ s. size }) is
+    ∙ ap is_rational (whole_ended Start ops whole)
 
 pub checked_run-some : (ops : List Op) (frame : List ℕ) (width rows x row y : ℕ) (last : Values)
     → checked_run_from frame (record { width = width; rows = rows; x = x; row = row; y = y }) Start ops no_values ≡ Some last
@@ -197,7 +168,8 @@ unfolding checked_run
 checked_run-some ops frame width rows x row y last is = rw is refl
 
 pub checked_run-none : (ops : List Op) (frame : List ℕ) (width rows x row y : ℕ)
-    → checked_run_from frame (record { width = width; rows = rows; x = x; row = row; y = y }) Start ops no_values ≡ None → checked_run ops frame width rows x row y ≡ None
+    → checked_run_from frame (record { width = width; rows = rows; x = x; row = row; y = y }) Start ops no_values ≡ None
+    → checked_run ops frame width rows x row y ≡ None
 unfolding checked_run
 checked_run-none ops frame width rows x row y is = rw is refl
 
@@ -207,10 +179,11 @@ unfolding ends_with_write
 last_of [] last h = absurd (none-some last (sym h))
 last_of (op ∷ []) last h = ap is_write (sym (same_Some last op h))
 last_of (op ∷ next ∷ ops) last h =
-    let place : length (op ∷ next ∷ ops) - 1 ≡ suc (length (next ∷ ops) - 1) = omega arith in
-    last_of (next ∷ ops) last (rw place at h)
+    let index : length (op ∷ next ∷ ops) - 1 ≡ suc (length (next ∷ ops) - 1) = omega arith in
+    last_of (next ∷ ops) last (rw index at h)
 
-pub whole_is : (ops : List Op) (last : Op) (b : Bool) → Some last ≡ slice_get ops (length ops - 1) → b ≡ is_write last → IsTrue b ↔ (ends_with_write ops ≡ true)
+pub whole_is : (ops : List Op) (last : Op) (b : Bool) → Some last ≡ slice_get ops (length ops - 1) → b ≡ is_write last
+    → IsTrue b ↔ (ends_with_write ops ≡ true)
 whole_is ops last b h is =
     let same = is ∙ sym (last_of ops last h) in
     (λ yes. sym same ∙ yes, λ yes. same ∙ yes)
@@ -220,5 +193,5 @@ unfolding ends_with_write
 whole_none [] h = (λ no. no, λ no. no)
 whole_none (op ∷ []) h = absurd (none-some op h)
 whole_none (op ∷ next ∷ ops) h =
-    let place : length (op ∷ next ∷ ops) - 1 ≡ suc (length (next ∷ ops) - 1) = omega arith in
-    whole_none (next ∷ ops) (rw place at h)
+    let index : length (op ∷ next ∷ ops) - 1 ≡ suc (length (next ∷ ops) - 1) = omega arith in
+    whole_none (next ∷ ops) (rw index at h)

@@ -1,12 +1,14 @@
 -- The exact meaning of an operation, over whole numbers and fractions of any size.
-use Rattle.std.specs.Prelude.{ℕ, ◌+◌, ◌*◌, ◌/◌, ◌%◌, ◌^◌, Bool, if◌then◌else◌, nat_lt, List, [], ◌∷◌, sum, slice_index, slice_index_or, Option, Some, None, unsigned_abs}
+use Rattle.std.specs.Prelude.{ℕ, ◌+◌, ◌*◌, ◌/◌, ◌%◌, ◌^◌, Bool, if◌then◌else◌, nat_lt, List, [], ◌∷◌, sum, slice_index, slice_index_or}
+use Rattle.std.specs.Prelude.{Option, Some, None, unsigned_abs}
 use Rattle.frac_math.specs.Fraction.{ℚ, nat, ◌+ℚ◌, ◌*ℚ◌, min_ℚ, max_ℚ, floor}
 use Rattle.op_list.specs.declared.types.PixType.{PixType}
 use Rattle.op_list.specs.declared.types.PixType.TheVariants.{Rat}
 use Rattle.op_list.specs.declared.types.Stage.{Stage}
-use Rattle.op_list.specs.declared.place.Place.{Place}
+use Rattle.op_list.specs.declared.position.PixelPosition.{PixelPosition}
 use Rattle.op_list.specs.declared.op.Op.{Op}
-use Rattle.op_list.specs.declared.op.Op.TheVariants.{Read, Write, SwapBytes, Unpack, Pack, Clear, LeftShift, RightShift, Swizzle, Convert, Dither, Linear, Scale, Min, Max}
+use Rattle.op_list.specs.declared.op.Op.TheVariants.{Read, Write, SwapBytes, Unpack, Pack, Clear, LeftShift, RightShift, Swizzle, Convert}
+use Rattle.op_list.specs.declared.op.Op.TheVariants.{Dither, Linear, Scale, Min, Max}
 use Rattle.op_list.specs.declared.values.Values.{Values}
 use Rattle.op_list.specs.declared.values.Values.TheVariants.{Numbers, Fractions}
 use Rattle.op_list.specs.Types.{bits, bits_at}
@@ -22,7 +24,8 @@ written planes values i = if nat_lt i (sum planes) then number values i else 0
 -- the values as the fields of one number
 abbrev pub packed : List ℕ → Values → ℕ
 packed widths values =
-    placed widths (number values 0) 0 + placed widths (number values 1) 1 + placed widths (number values 2) 2 + placed widths (number values 3) 3
+    placed widths (number values 0) 0 + placed widths (number values 1) 1 + placed widths (number values 2) 2 + placed widths
+    (number values 3) 3
 
 -- the entry where one is given, else the value
 abbrev pub cleared_number : Option ℚ → ℕ → ℕ
@@ -72,20 +75,20 @@ abbrev pub at_least : Option ℚ → ℚ → ℚ
 at_least None value = value
 at_least (Some limit) value = max_ℚ value limit
 
--- what an operation makes of four values at a place of a frame
-unfoldable pub apply : List ℕ → Place → Stage → Op → Values → Values
-apply frame place stage (Read elem planes palette) values = Numbers (read_values elem planes palette frame place)
-apply frame place stage (Write elem planes) values = Numbers (four (λ i. written planes values i))
-apply frame place stage SwapBytes values = Numbers (four (λ i. reversed_bytes (bits_at stage / 8) (number values i)))
-apply frame place stage (Unpack widths) values = Numbers (four (λ i. field widths (number values 0) i))
-apply frame place stage (Pack widths) values = Numbers (packed widths values ∷ 0 ∷ 0 ∷ 0 ∷ [])
-apply frame place stage (Clear entries) values = cleared entries values
-apply frame place stage (LeftShift n) values = Numbers (four (λ i. number values i * 2 ^ n % 2 ^ bits_at stage))
-apply frame place stage (RightShift n) values = Numbers (four (λ i. number values i / 2 ^ n))
-apply frame place stage (Swizzle from) values = swizzled from values
-apply frame place stage (Convert to expand) values = converted to expand values
-apply frame place stage (Dither k) values = Fractions (four (λ i. fraction values i +ℚ dither_at k place.x place.y))
-apply frame place stage (Linear rows) values = Fractions (four (λ i. row_value (row_of rows i) values))
-apply frame place stage (Scale by) values = Fractions (four (λ i. fraction values i *ℚ by))
-apply frame place stage (Min limits) values = Fractions (four (λ i. at_most (entry limits i) (fraction values i)))
-apply frame place stage (Max limits) values = Fractions (four (λ i. at_least (entry limits i) (fraction values i)))
+-- what an operation makes of four values at a position of a frame
+unfoldable pub apply : List ℕ → PixelPosition → Stage → Op → Values → Values
+apply frame position stage (Read elem planes palette) values = Numbers (read_values elem planes palette frame position)
+apply frame position stage (Write elem planes) values = Numbers (four (λ i. written planes values i))
+apply frame position stage SwapBytes values = Numbers (four (λ i. reversed_bytes (bits_at stage / 8) (number values i)))
+apply frame position stage (Unpack widths) values = Numbers (four (λ i. field widths (number values 0) i))
+apply frame position stage (Pack widths) values = Numbers (packed widths values ∷ 0 ∷ 0 ∷ 0 ∷ [])
+apply frame position stage (Clear entries) values = cleared entries values
+apply frame position stage (LeftShift n) values = Numbers (four (λ i. number values i * 2 ^ n % 2 ^ bits_at stage))
+apply frame position stage (RightShift n) values = Numbers (four (λ i. number values i / 2 ^ n))
+apply frame position stage (Swizzle from) values = swizzled from values
+apply frame position stage (Convert to expand) values = converted to expand values
+apply frame position stage (Dither k) values = Fractions (four (λ i. fraction values i +ℚ dither_at k position.x position.y))
+apply frame position stage (Linear rows) values = Fractions (four (λ i. row_value (row_of rows i) values))
+apply frame position stage (Scale by) values = Fractions (four (λ i. fraction values i *ℚ by))
+apply frame position stage (Min limits) values = Fractions (four (λ i. at_most (entry limits i) (fraction values i)))
+apply frame position stage (Max limits) values = Fractions (four (λ i. at_least (entry limits i) (fraction values i)))

@@ -1,7 +1,7 @@
 -- What the definitions keep: the laws that the functions of src/laws.rt prove.
 use Rattle.std.specs.Prelude.{◌≡◌, ℕ, ◌+◌, ◌*◌, ◌<◌, List, ◌++◌, take, sum, slice_index, Some}
 use Rattle.op_list.specs.declared.types.Stage.{Stage}
-use Rattle.op_list.specs.declared.place.Place.{Place}
+use Rattle.op_list.specs.declared.position.PixelPosition.{PixelPosition}
 use Rattle.op_list.specs.declared.op.Op.{Op}
 use Rattle.op_list.specs.declared.values.Values.{Values}
 use Rattle.op_list.specs.Typing.{stage_from}
@@ -13,8 +13,8 @@ use Rattle.op_list.specs.Fits.{StepFits, StepsFit}
 
 -- the checked answer of an operation is the exact one
 abbrev pub AppliesExactly : Type 0
-AppliesExactly = (frame : List ℕ) (place : Place) (stage : Stage) (op : Op) (values next : Values)
-    → checked_apply frame place stage op values ≡ Some next → apply frame place stage op values ≡ next
+AppliesExactly = (frame : List ℕ) (position : PixelPosition) (stage : Stage) (op : Op) (values next : Values)
+    → checked_apply frame position stage op values ≡ Some next → apply frame position stage op values ≡ next
 
 -- the checked answer of a list is the exact one
 abbrev pub RunsExactly : Type 0
@@ -23,19 +23,16 @@ RunsExactly = (ops : List Op) (frame : List ℕ) (width rows x row y : ℕ) (ele
 
 -- where all numbers fit, there is an answer
 abbrev pub AppliesWhereItFits : Type 0
-AppliesWhereItFits = (frame : List ℕ) (place : Place) (stage : Stage) (op : Op) (values : Values)
-    → StepFits place op values → checked_apply frame place stage op values ≡ Some (apply frame place stage op values)
+AppliesWhereItFits = (frame : List ℕ) (position : PixelPosition) (stage : Stage) (op : Op) (values : Values)
+    → StepFits position op values → checked_apply frame position stage op values ≡ Some (apply frame position stage op values)
 
 abbrev pub RunsWhereItFits : Type 0
-RunsWhereItFits = (frame : List ℕ) (place : Place) (stage : Stage) (ops : List Op) (values : Values)
-    → StepsFit frame place stage ops values → checked_run_from frame place stage ops values ≡ Some (run_from frame place stage ops values)
+RunsWhereItFits = (frame : List ℕ) (position : PixelPosition) (stage : Stage) (ops : List Op) (values : Values)
+    → StepsFit frame position stage ops values
+    → checked_run_from frame position stage ops values ≡ Some (run_from frame position stage ops values)
 
--- a list runs one part after the other
-abbrev pub RunsInParts : Type 0
-RunsInParts = (frame : List ℕ) (place : Place) (stage : Stage) (first second : List Op) (values : Values)
-    → run_from frame place stage (first ++ second) values ≡ run_from frame place (stage_from stage first) second (run_from frame place stage first values)
-
--- element e of a pixel in plane p comes after those of the pixel in the planes before: the planes stand one after the other, and in each the pixels
+-- element e of a pixel in plane p comes after those of the pixel in the planes before: the planes stand one after the other, and in each
+-- the pixels
 abbrev pub ReadsInOrder : Type 0
 ReadsInOrder = (pixels pixel : ℕ) (planes : List ℕ) (p e : ℕ) → e < slice_index planes p
     → element_in pixels pixel 0 planes (sum (take p planes) + e) ≡ pixels * sum (take p planes) + pixel * slice_index planes p + e

@@ -9,3 +9,4 @@ pub mod Types
 pub mod Typing
 pub mod Values
 pub mod Whole
+pub mod Walk

@@ -1,17 +1,17 @@
 -- What storing the elements of a pixel keeps, and that elements determine a frame.
 use Rattle.std.specs.Prelude.{◌≡◌, ◌≢◌, ◌<◌, ℕ, ◌+◌, ◌*◌, true, List, length, sum, All}
 use Rattle.op_list.specs.declared.types.PixType.{PixType}
-use Rattle.op_list.specs.declared.place.Place.{Place}
+use Rattle.op_list.specs.declared.position.PixelPosition.{PixelPosition}
 use Rattle.op_list.specs.Types.{bytes, is_whole_type}
 use Rattle.op_list.specs.Pixel.{element_of, pixel_number}
 
 -- another pixel of the same frame
-pub record IsOtherPixel (place other : Place) : Type 0 where
-  pub width : other.width ≡ place.width
-  pub rows : other.rows ≡ place.rows
+pub record IsOtherPixel (position other : PixelPosition) : Type 0 where
+  pub width : other.width ≡ position.width
+  pub rows : other.rows ≡ position.rows
   pub column : other.x < other.width
   pub row : other.row < other.rows
-  pub differs : pixel_number other ≢ pixel_number place
+  pub differs : pixel_number other ≢ pixel_number position
 
 -- two frames have the same elements at the first n pixels, counted row by row
 abbrev pub HaveSameElements : PixType → List ℕ → ℕ → ℕ → ℕ → List ℕ → List ℕ → Type 0

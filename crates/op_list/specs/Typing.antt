@@ -1,5 +1,6 @@
 -- Which operations may follow one another, and with which arguments.
-use Rattle.std.specs.Prelude.{◌≡◌, ℕ, zero, suc, ◌^◌, Bool, true, false, not, ◌&&◌, ◌||◌, nat_eq, nat_lt, nat_le, List, [], ◌∷◌, sum, length, Option, Some, None, ℤ, pos, negsuc, ◌≤◌}
+use Rattle.std.specs.Prelude.{◌≡◌, ℕ, zero, suc, ◌^◌, Bool, true, false, not, ◌&&◌, ◌||◌, nat_eq, nat_lt, nat_le, List, [], ◌∷◌, sum}
+use Rattle.std.specs.Prelude.{length, Option, Some, None, ℤ, pos, negsuc, ◌≤◌}
 use Rattle.std.specs.List.{list_all}
 use Rattle.std.specs.Str.{bytes_eq}
 use Rattle.frac_math.specs.Fraction.{ℚ}
@@ -7,7 +8,8 @@ use Rattle.op_list.specs.declared.types.PixType.TheVariants.{U8, U16}
 use Rattle.op_list.specs.declared.types.Stage.{Stage}
 use Rattle.op_list.specs.declared.types.Stage.TheVariants.{Start, Typed, Ended}
 use Rattle.op_list.specs.declared.op.Op.{Op}
-use Rattle.op_list.specs.declared.op.Op.TheVariants.{Read, Write, SwapBytes, Unpack, Pack, Clear, LeftShift, RightShift, Swizzle, Convert, Dither, Linear, Scale, Min, Max}
+use Rattle.op_list.specs.declared.op.Op.TheVariants.{Read, Write, SwapBytes, Unpack, Pack, Clear, LeftShift, RightShift, Swizzle, Convert}
+use Rattle.op_list.specs.declared.op.Op.TheVariants.{Dither, Linear, Scale, Min, Max}
 use Rattle.op_list.specs.Types.{is_same, is_start, is_typed, has_type, is_whole, is_wide, is_rational, is_whole_type, bits_at}
 
 -- whether an operation of this kind may follow: the type that its values have before it
@@ -36,8 +38,19 @@ is_write _ = false
 unfoldable pub stage_after : Stage → Op → Stage
 stage_after stage (Read elem planes palette) = Typed elem
 stage_after stage (Write elem planes) = Ended
+stage_after stage SwapBytes = stage
+stage_after stage (Unpack widths) = stage
+stage_after stage (Pack widths) = stage
+stage_after stage (Clear values) = stage
+stage_after stage (LeftShift n) = stage
+stage_after stage (RightShift n) = stage
+stage_after stage (Swizzle from) = stage
 stage_after stage (Convert to expand) = Typed to
-stage_after stage _ = stage
+stage_after stage (Dither k) = stage
+stage_after stage (Linear rows) = stage
+stage_after stage (Scale by) = stage
+stage_after stage (Min limits) = stage
+stage_after stage (Max limits) = stage
 
 -- no 0 stands before a number above 0
 abbrev pub are_in_front : List ℕ → Bool
@@ -71,6 +84,7 @@ unfoldable pub are_good : Stage → Op → Bool
 are_good stage (Read elem planes palette) =
     is_whole_type elem && are_counts 4 planes && (not palette || (is_same elem U8 && bytes_eq planes (1 ∷ 0 ∷ 0 ∷ 0 ∷ [])))
 are_good stage (Write elem planes) = is_whole_type elem && are_counts 4 planes
+are_good stage SwapBytes = true
 are_good stage (Unpack widths) = are_counts (bits_at stage) widths
 are_good stage (Pack widths) = are_counts (bits_at stage) widths
 are_good stage (Clear values) = is_rational stage || all_fit (bits_at stage) values
@@ -79,7 +93,10 @@ are_good stage (RightShift n) = nat_lt n (bits_at stage)
 are_good stage (Swizzle from) = list_all (λ i. nat_lt i 4) from
 are_good stage (Convert to expand) = not expand || (has_type U8 stage && is_same to U16)
 are_good stage (Dither k) = nat_le k 4
-are_good stage _ = true
+are_good stage (Linear rows) = true
+are_good stage (Scale by) = true
+are_good stage (Min limits) = true
+are_good stage (Max limits) = true
 
 -- what a list leaves
 unfoldable pub stage_from : Stage → List Op → Stage

@@ -10,31 +10,32 @@ ghost use Rattle.op_list.specs.Run.{MayApply};
 use crate::fractions::{added, limited_above, limited_below, mapped, scaled};
 use crate::numbers::{packed, shifted_left, shifted_right, swapped, unpacked, written};
 use crate::op::Op;
-use crate::place::Place;
+use crate::position::PixelPosition;
 use crate::read::read_values;
 use crate::types::Stage;
 use crate::values::Values;
 use frac_math::dither_at;
 
 impl Op {
-    // What the operation makes of the values at a place of a frame. None where the numbers of a fraction leave i128.
+    // What the operation makes of the values at a position of a frame. None where the numbers of a
+    // fraction leave i128.
     #[tactic(auto, unfolding(crate::specs::Checked::checked_apply, crate::specs::Apply::apply))]
     pub(crate) fn apply(
         &self,
         frame: &[u8],
-        place: &Place,
+        position: &PixelPosition,
         stage: Stage,
         values: &Values,
     ) -> Option<Values>
-        requires { MayApply frame.now place.now stage self.now values.now }
-        ensures { result ≡ checked_apply frame.now place.now stage self.now values.now }
+        requires { MayApply frame.now position.now stage self.now values.now }
+        ensures { result ≡ checked_apply frame.now position.now stage self.now values.now }
     {
         match self {
             Op::Read {
                 elem,
                 planes,
                 palette,
-            } => Some(Values::Numbers(read_values(*elem, planes, *palette, frame, place))),
+            } => Some(Values::Numbers(read_values(*elem, planes, *palette, frame, position))),
             Op::Write { planes, .. } => Some(Values::Numbers(written(planes, values.numbers()))),
             Op::SwapBytes => Some(Values::Numbers(swapped(values.numbers(), stage.bits()))),
             Op::Unpack { widths } => Some(Values::Numbers(unpacked(widths, values.numbers()[0]))),
@@ -54,7 +55,7 @@ impl Op {
             Op::Swizzle { from } => Some(values.swizzled(from)),
             Op::Convert { to, expand } => Some(values.converted(*to, *expand)),
             Op::Dither { k } => Some(Values::Fractions(added(
-                &dither_at(*k, place.x, place.y),
+                &dither_at(*k, position.x, position.y),
                 values.fractions(),
             )?)),
             Op::Linear { rows } => Some(Values::Fractions(mapped(rows, values.fractions())?)),

@@ -77,7 +77,8 @@ fn at_most(limit: &Option<Frac>, value: &Frac) -> Frac
     }
 }
 
-fn lesser(a: &Frac, b: &Frac) -> Frac
+/// The lesser of two fractions.
+pub fn lesser(a: &Frac, b: &Frac) -> Frac
     ensures { result ≡ min_ℚ a.now b.now }
 {
     match a.cmp(b) {
@@ -107,7 +108,8 @@ fn at_least(limit: &Option<Frac>, value: &Frac) -> Frac
     }
 }
 
-fn greater(a: &Frac, b: &Frac) -> Frac
+/// The greater of two fractions.
+pub fn greater(a: &Frac, b: &Frac) -> Frac
     ensures { result ≡ max_ℚ a.now b.now }
 {
     match a.cmp(b) {

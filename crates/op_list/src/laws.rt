@@ -1,5 +1,8 @@
-// The laws of the definitions, each the contract of a function.
-ghost use Rattle.op_list.specs.Laws.{AppliesExactly, RunsExactly, AppliesWhereItFits, RunsWhereItFits, RunsInParts, ReadsInOrder};
+//! The laws of the definitions, each the contract of a function.
+ghost use Rattle.op_list.specs.Laws.{AppliesExactly, RunsExactly, AppliesWhereItFits};
+ghost use Rattle.op_list.specs.Laws.{RunsWhereItFits, ReadsInOrder};
+ghost use Rattle.op_list.specs.Walk.{EveryListWalksInParts, EveryListAppends, EveryPartIsReplaced};
+ghost use Rattle.op_list.specs.Walk.{EveryFrontRunsAlike, EndsAsItsRest, NothingFollowsWrite};
 ghost use Rattle.op_list.specs.Store.{ElementsMakeFrame};
 
 use crate::list::OpList;
@@ -24,9 +27,36 @@ pub fn runs_where_it_fits()
     ensures { RunsWhereItFits }
 {}
 
-/// A list runs one part after the other.
-pub fn runs_in_parts()
-    ensures { RunsInParts }
+/// Two parts, one behind the other, as one list: typing, stage, size, exact and checked run.
+pub fn walks_in_parts()
+    ensures { EveryListWalksInParts }
+{}
+
+/// The same of a list with one operation more at its end.
+pub fn appends_operation()
+    ensures { EveryListAppends }
+{}
+
+/// Operations in the middle of a list, replaced by others that may stand for them: typing, stage
+/// and size.
+pub fn replaces_part()
+    ensures { EveryPartIsReplaced }
+{}
+
+/// Lists behind one front run alike where they do on what the front leaves, by the exact and by the
+/// checked run.
+pub fn runs_alike()
+    ensures { EveryFrontRunsAlike }
+{}
+
+/// A list ends with a Write where its rest does.
+pub fn ends_as_its_rest()
+    ensures { EndsAsItsRest }
+{}
+
+/// Nothing follows a Write.
+pub fn nothing_follows_write()
+    ensures { NothingFollowsWrite }
 {}
 
 /// The elements of a pixel stand in the order of its planes.
@@ -39,7 +69,8 @@ pub fn elements_make_frame()
     ensures { ElementsMakeFrame }
 {}
 
-/// Lists may cross threads, and be shared by them.
+/// An `OpList` is `Send` and `Sync`: the workers of a run share one list. A missing proof of it
+/// would else show only where the first threads are started.
 pub fn crosses_threads() {
     crosses::<OpList>()
 }

@@ -1,31 +1,34 @@
-//! Lists of operations that convert a pixel: how they may follow one another, their exact meaning, and their evaluation in fractions of 128 bits.
+//! Lists of operations that convert a pixel.
+//!
+//! `specs/Typing` says how operations may follow one another, `specs/Apply` and `specs/Run` what
+//! they mean exactly, and `specs/Checked` how they are evaluated in fractions of 128 bits.
+//! `OpList::push` takes exactly what the typing allows; `OpList::run_pixel` evaluates.
 #![tactic(auto)]
 
 mod apply;
-mod convert;
+mod entries;
 mod fault;
 mod fractions;
-mod laws;
+pub mod laws;
 mod list;
 mod numbers;
 mod op;
-mod place;
+mod position;
 mod read;
 mod run;
 mod store;
 #[cfg(test)]
 mod tests;
+mod type_change;
 mod types;
 mod typing;
 mod values;
 
 pub use fault::PushFault;
-pub use laws::{
-    applies_exactly, applies_where_it_fits, crosses_threads, elements_make_frame, reads_in_order,
-    runs_exactly, runs_in_parts, runs_where_it_fits,
-};
-pub use list::{MOST_OPERATIONS, OpList};
+pub use fractions::{greater, lesser};
+pub use list::{MAX_OPERATIONS, OpList};
+pub use numbers::total;
 pub use op::Op;
-pub use place::Place;
+pub use position::PixelPosition;
 pub use store::store_elements;
 pub use types::{PixType, Stage};

@@ -1,10 +1,11 @@
-ghost use Rattle.std.specs.Prelude.{◌≡◌, ◌<◌, ◌≤◌, ◌↔◌, true, false, IsTrue, OnOk, OnErr, IfErr, [], ◌∷◌, ◌++◌, length};
+ghost use Rattle.std.specs.Prelude.{◌≡◌, ◌<◌, ◌≤◌, ◌↔◌, true, false, IsTrue, OnOk, OnErr, IfErr};
+ghost use Rattle.std.specs.Prelude.{IfSome, [], ◌∷◌, ◌++◌, length};
 ghost use Rattle.op_list.specs.Typing.{may_follow, are_good, stage_of, IsOpList, ends_with_write};
-ghost use Rattle.op_list.specs.Run.{read_length, checked_run};
+ghost use Rattle.op_list.specs.Run.{read_length, run, checked_run};
 
 use crate::fault::PushFault;
 use crate::op::Op;
-use crate::place::Place;
+use crate::position::PixelPosition;
 use crate::run::values_after;
 use crate::types::Stage;
 use frac_math::Frac;
@@ -12,7 +13,7 @@ use std::alloc::Global;
 use std::marker::Model;
 
 /// The most operations of a list.
-pub const MOST_OPERATIONS: usize = 24;
+pub const MAX_OPERATIONS: usize = 24;
 
 /// At most 24 operations that may follow one another, each with good arguments.
 #[derive(Drop)]
@@ -45,11 +46,17 @@ impl OpList {
         }
     }
 
-    /// Puts an operation at the end. The first cause of a fault is told, in the order of `PushFault`.
+    /// Puts an operation at the end. The first cause of a fault is told, in the order of
+    /// `PushFault`, and the list is then as it was.
     pub fn push(&mut self, op: Op) -> Result<(), PushFault>
-        ensures wrong_type { (result ≡ Err PushFault.WrongType) ↔ (may_follow (stage_of self.old) op ≡ false) }
-        ensures bad_argument { (result ≡ Err PushFault.BadArgument) ↔ ((may_follow (stage_of self.old) op ≡ true) × (are_good (stage_of self.old) op ≡ false)) }
-        ensures too_long { (result ≡ Err PushFault.TooLong) ↔ ((may_follow (stage_of self.old) op ≡ true) × (are_good (stage_of self.old) op ≡ true) × (length self.old ≡ 24)) }
+        ensures wrong_type { (result ≡ Err PushFault.WrongType)
+            ↔ (may_follow (stage_of self.old) op ≡ false) }
+        ensures bad_argument { (result ≡ Err PushFault.BadArgument)
+            ↔ ((may_follow (stage_of self.old) op ≡ true)
+            × (are_good (stage_of self.old) op ≡ false)) }
+        ensures too_long { (result ≡ Err PushFault.TooLong)
+            ↔ ((may_follow (stage_of self.old) op ≡ true) × (are_good (stage_of self.old) op ≡ true)
+            × (length self.old ≡ 24)) }
         ensures ok { OnOk result (self.new ≡ self.old ++ op ∷ []) }
         ensures err { OnErr result (self.new ≡ self.old) }
     {
@@ -59,7 +66,7 @@ impl OpList {
         if !op.has_good_arguments(self.stage) {
             return Err(PushFault::BadArgument);
         }
-        if self.ops.len() >= MOST_OPERATIONS {
+        if self.ops.len() >= MAX_OPERATIONS {
             return Err(PushFault::TooLong);
         }
         let stage = op.stage_after(self.stage);
@@ -86,8 +93,13 @@ impl OpList {
         }
     }
 
-    /// The elements that are given to Write for the pixel at column x of a row, and 0 for the others. The dither goes by x and y.
-    /// The frame has the length that the list's Read states for `width` and `rows`. None where the numbers of a fraction leave i128. It takes no memory.
+    /// The elements that are given to Write for the pixel at column `x` of a row, and 0 for the
+    /// others.
+    ///
+    /// The list is whole, and the frame has the length that its Read states for `width` and
+    /// `rows` in pixels. The dither goes by `x` and `y`, the row of the larger frame of which
+    /// this frame is some rows. None exactly where a checked sum or product of the list is, since
+    /// a number leaves 128 bits. It takes no memory.
     pub fn run_pixel(
         &self,
         frame: &[u8],
@@ -101,16 +113,18 @@ impl OpList {
         requires column { x < width }
         requires row { row < rows }
         requires frame { length frame.now ≡ read_length self.now width rows }
-        ensures { result ≡ checked_run self.now frame.now width rows x row y }
+        ensures checked { result ≡ checked_run self.now frame.now width rows x row y }
+        ensures exact { IfSome result
+            (λ elements. elements ≡ run self.now frame.now width rows x row y) }
     {
-        let place = Place {
+        let position = PixelPosition {
             width,
             rows,
             x,
             row,
             y,
         };
-        let values = values_after(self.ops(), frame, &place)?;
+        let values = values_after(self.ops(), frame, &position)?;
         Some(values.elements())
     }
 }

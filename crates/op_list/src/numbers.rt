@@ -1,8 +1,9 @@
-ghost use Rattle.std.specs.Prelude.{◌≡◌, ◌+◌, ◌*◌, ◌/◌, ◌%◌, ◌^◌, ◌<◌, ◌≤◌, ◌⊎◌, [], ◌∷◌, if◌then◌else◌, nat_lt, sum, slice_index, All};
+ghost use Rattle.std.specs.Prelude.{◌≡◌, ◌+◌, ◌*◌, ◌/◌, ◌%◌, ◌^◌, ◌<◌, ◌≤◌, ◌⊎◌, [], ◌∷◌};
+ghost use Rattle.std.specs.Prelude.{if◌then◌else◌, nat_lt, sum, slice_index, All};
 ghost use Rattle.op_list.specs.Values.{four};
 ghost use Rattle.op_list.specs.Whole.{reversed_bytes, bits_below, field, placed};
 
-// The sum of four counts.
+/// The sum of four counts.
 pub fn total(counts: &[u8; 4]) -> u32
     ensures { result ≡ sum counts.now }
 {
@@ -66,7 +67,10 @@ fn field(value: u32, below: u32, width: u8) -> u32
 // The values as the fields of one number.
 pub fn packed(widths: &[u8; 4], values: &[u32; 4]) -> u32
     requires { sum widths.now ≤ 32 }
-    ensures { result ≡ placed widths.now (slice_index values.now 0) 0 + placed widths.now (slice_index values.now 1) 1 + placed widths.now (slice_index values.now 2) 2 + placed widths.now (slice_index values.now 3) 3 }
+    ensures { result ≡ placed widths.now (slice_index values.now 0) 0
+        + placed widths.now (slice_index values.now 1) 1
+        + placed widths.now (slice_index values.now 2) 2
+        + placed widths.now (slice_index values.now 3) 3 }
 {
     let [first, second, third, fourth] = *widths;
     let below_third = u32::from(fourth);
@@ -144,7 +148,8 @@ fn product_modulo(value: u32, factor: u32, bits: u32) -> u32
 
 // The first elements, as many as the planes have, and 0 for the others.
 pub fn written(planes: &[u8; 4], values: &[u32; 4]) -> [u32; 4]
-    ensures { result ≡ four (λ i. if nat_lt i (sum planes.now) then slice_index values.now i else 0) }
+    ensures { result
+        ≡ four (λ i. if nat_lt i (sum planes.now) then slice_index values.now i else 0) }
 {
     let count = total(planes);
     [

@@ -2,69 +2,101 @@ use crate::types::PixType;
 use frac_math::Frac;
 
 /// An operation on the four values of a pixel, which are numbered 0 to 3.
+///
+/// The values are whole numbers of 8, 16 or 32 bits, or exact fractions ([`PixType`]); "bits" is
+/// the width of that type. `specs/Typing` says which operation may follow which, and with which
+/// arguments; `specs/Apply` what each one makes of the values.
 #[derive(Clone, Copy, Debug, PartialEq, Eq)]
 pub enum Op {
-    /// The first operation. It takes `planes[p]` elements of each plane p for a pixel, in the order of the planes, and 0 for the values that are left:
-    /// 1 to 4 elements in all, and no plane without one before a plane with one.
-    /// With `palette` the one element is an index, and the values are red, green, blue and alpha of its entry.
+    /// Takes a pixel's elements from the frame, as the first operation and nowhere else.
+    ///
+    /// An element is a little-endian number of the whole type `elem`. A pixel has `planes[p]` of
+    /// them in plane p: 1 to 4 in all, and no plane without one before a plane with one. The
+    /// values are the elements in the order of the planes, and 0 for those that are left.
+    ///
+    /// With `palette`, for U8 and one element alone, that element is an index, and the values are
+    /// red, green, blue and alpha of its entry, 8 bits each. The 256 entries stand behind the
+    /// pixels, four bytes each: blue, green, red, alpha (FFmpeg's pal8).
     Read {
         elem: PixType,
         planes: [u8; 4],
         palette: bool,
     },
-    /// The last operation. It gives the first values to the target, as elements in the order of its planes.
+    /// Gives the first values to the target as elements, in the order of its planes, as the last
+    /// operation.
+    ///
+    /// The values have the whole type `elem`. `planes` are as those of a Read.
     Write {
         elem: PixType,
         planes: [u8; 4],
     },
-    /// The bytes of every value in the other order.
+    /// Turns the bytes of every value round. The values are whole numbers of 16 or 32 bits.
     SwapBytes,
-    /// Value 0 is cut into fields of these widths in bits, the first from its most significant bits. The widths are at most the bits of the type in all.
+    /// Cuts value 0, a whole number, into fields, the first from the most significant bits.
+    ///
+    /// `widths` are the fields' widths in bits: from 1 to the bits of the type in all, and no
+    /// width 0 before one above 0. The fields take the lowest bits, as many as the widths come to.
     Unpack {
         widths: [u8; 4],
     },
-    /// The values are put together to value 0, as fields of these widths in bits, the first as its most significant bits.
+    /// Puts the values, whole numbers, together to value 0 as fields of these widths in bits, the
+    /// first as its most significant ones, and makes the others 0.
+    ///
+    /// Of each value the lowest bits are taken. `widths` are as those of an Unpack.
     Pack {
         widths: [u8; 4],
     },
-    /// The given values take the place of those that are there.
+    /// Puts the given entries in place of the values; a value without one stays.
+    ///
+    /// Where the values are whole numbers, each entry is one from 0 to 2^bits - 1.
     Clear {
         values: [Option<Frac>; 4],
     },
-    /// Every value times 2^n, modulo 2^bits, for n below the bits of the type.
+    /// Makes of every value, a whole number, the value times 2^n, modulo 2^bits. `n` is below the
+    /// bits of the type.
     LeftShift {
         n: u8,
     },
-    /// Every value divided by 2^n, floored, for n below the bits of the type.
+    /// Divides every value, a whole number, by 2^n, rounded down. `n` is below the bits of the
+    /// type.
     RightShift {
         n: u8,
     },
-    /// The new value i is the old value `from[i]`, each from 0 to 3.
+    /// Makes the old value `from[i]` the new value i. Each of `from` is below 4.
     Swizzle {
         from: [u8; 4],
     },
-    /// Every value in another type: modulo 2^bits in a whole type, after the floor of a fraction. With `expand` it is times 257.
+    /// Gives every value another type.
+    ///
+    /// In a whole type it is taken modulo 2^bits, a fraction after its floor; as a fraction it is
+    /// what it was. With `expand`, from U8 to U16 alone, it is times 257, so that 255 becomes
+    /// 65535.
     Convert {
         to: PixType,
         expand: bool,
     },
-    /// The ordered dither of 2^k by 2^k places is added to every value, for k from 0 to 4.
+    /// Adds the ordered dither of 2^k by 2^k pixels to every value, a fraction. `k` is at most 4.
+    ///
+    /// It goes by the column and the row of the pixel, and lies between 0 and 1
+    /// ([`frac_math::dither_at`]).
     Dither {
         k: u8,
     },
-    /// The new value i is the sum of the old values, each times its coefficient of row i, and of the row's last number.
+    /// Makes the new value i, a fraction, the sum of the old values, each times its coefficient
+    /// of row i, and of the row's last number:
+    /// `rows[i][0] v0 + rows[i][1] v1 + rows[i][2] v2 + rows[i][3] v3 + rows[i][4]`.
     Linear {
         rows: [[Frac; 5]; 4],
     },
-    /// Every value times a fraction.
+    /// Makes every value, a fraction, the value times `by`.
     Scale {
         by: Frac,
     },
-    /// The lesser of each value and its limit, where it has one.
+    /// Makes every value, a fraction, the lesser of itself and its limit, where it has one.
     Min {
         limits: [Option<Frac>; 4],
     },
-    /// The greater of each value and its limit, where it has one.
+    /// Makes every value, a fraction, the greater of itself and its limit, where it has one.
     Max {
         limits: [Option<Frac>; 4],
     },

@@ -1,50 +1,59 @@
-ghost use Rattle.std.specs.Prelude.{◌≡◌, ◌+◌, ◌*◌, ◌<◌, ◌≤◌, IsTrue, true, if◌then◌else◌, nat_lt, length, sum, slice_index};
+ghost use Rattle.std.specs.Prelude.{◌≡◌, ◌+◌, ◌*◌, ◌<◌, ◌≤◌, IsTrue, true, if◌then◌else◌, nat_lt};
+ghost use Rattle.std.specs.Prelude.{length, sum, slice_index};
 ghost use Rattle.op_list.specs.Types.{bytes, is_whole_type};
-ghost use Rattle.op_list.specs.Pixel.{number_at, element, element_in, element_of, pixel_count, pixel_number, colours, palette_colours, read_values};
+ghost use Rattle.op_list.specs.Pixel.{number_at, element, element_in, element_of, pixel_count};
+ghost use Rattle.op_list.specs.Pixel.{pixel_number, colours, palette_colours, read_values};
 ghost use Rattle.op_list.specs.Pixel.{IsPixelOf, HasElements, HasPalette};
 ghost use Rattle.op_list.specs.Values.{four};
 
-use crate::place::Place;
+use crate::position::PixelPosition;
 use crate::types::PixType;
 
-/// The elements of a pixel in the order of its planes, and 0 for the values that are left; or the colours of its palette entry.
+/// The elements of a pixel in the order of its planes, and 0 for the values that are left; or the
+/// colours of its palette entry.
 pub fn read_values(
     elem: PixType,
     planes: &[u8; 4],
     palette: bool,
     frame: &[u8],
-    place: &Place,
+    position: &PixelPosition,
 ) -> [u32; 4]
-    requires { IsPixelOf elem planes.now palette frame.now place.now }
-    ensures { result ≡ read_values elem planes.now palette frame.now place.now }
+    requires { IsPixelOf elem planes.now palette frame.now position.now }
+    ensures { result ≡ read_values elem planes.now palette frame.now position.now }
 {
     if palette {
-        palette_colours(frame, place)
+        palette_colours(frame, position)
     } else {
-        elements_of(elem, planes, frame, place)
+        elements_of(elem, planes, frame, position)
     }
 }
 
 // The elements of a pixel, and 0 for the values that are left.
-fn elements_of(elem: PixType, planes: &[u8; 4], frame: &[u8], place: &Place) -> [u32; 4]
-    requires { HasElements elem planes.now frame.now place.now }
-    ensures { result ≡ four (λ i. element_of elem planes.now frame.now place.now i) }
+fn elements_of(elem: PixType, planes: &[u8; 4], frame: &[u8], position: &PixelPosition) -> [u32; 4]
+    requires { HasElements elem planes.now frame.now position.now }
+    ensures { result ≡ four (λ i. element_of elem planes.now frame.now position.now i) }
 {
     [
-        element_of(elem, planes, frame, place, 0),
-        element_of(elem, planes, frame, place, 1),
-        element_of(elem, planes, frame, place, 2),
-        element_of(elem, planes, frame, place, 3),
+        element_of(elem, planes, frame, position, 0),
+        element_of(elem, planes, frame, position, 1),
+        element_of(elem, planes, frame, position, 2),
+        element_of(elem, planes, frame, position, 3),
     ]
 }
 
 // Element i of a pixel, and 0 where it has fewer.
 #[tactic(auto, unfolding(crate::specs::Pixel::element_of))]
-fn element_of(elem: PixType, planes: &[u8; 4], frame: &[u8], place: &Place, i: usize) -> u32
-    requires { HasElements elem planes.now frame.now place.now }
-    ensures { result ≡ element_of elem planes.now frame.now place.now i }
+fn element_of(
+    elem: PixType,
+    planes: &[u8; 4],
+    frame: &[u8],
+    position: &PixelPosition,
+    i: usize,
+) -> u32
+    requires { HasElements elem planes.now frame.now position.now }
+    ensures { result ≡ element_of elem planes.now frame.now position.now i }
 {
-    match place.element_index(planes, i) {
+    match position.element_index(planes, i) {
         Some(k) => element(elem, frame, k),
         None => 0,
     }
@@ -70,11 +79,11 @@ fn element(elem: PixType, frame: &[u8], k: usize) -> u32
 
 // Red, green, blue and alpha of the entry of the pixel's index.
 #[tactic(auto, unfolding(crate::specs::Pixel::palette_colours))]
-fn palette_colours(frame: &[u8], place: &Place) -> [u32; 4]
-    requires { HasPalette frame.now place.now }
-    ensures { result ≡ palette_colours frame.now place.now }
+fn palette_colours(frame: &[u8], position: &PixelPosition) -> [u32; 4]
+    requires { HasPalette frame.now position.now }
+    ensures { result ≡ palette_colours frame.now position.now }
 {
-    let at = place.pixel_count() + 4 * usize::from(frame[place.pixel_number()]);
+    let at = position.pixel_count() + 4 * usize::from(frame[position.pixel_number()]);
     [
         u32::from(frame[at + 2]),
         u32::from(frame[at + 1]),

@@ -1,49 +1,61 @@
 // Elements that are stored in a frame.
-ghost use Rattle.std.specs.Prelude.{◌≡◌, ◌≢◌, ℕ, ◌+◌, ◌*◌, ◌%◌, ◌^◌, ◌<◌, ◌≤◌, length, sum, slice_index};
+ghost use Rattle.std.specs.Prelude.{◌≡◌, ◌≢◌, ℕ, ◌+◌, ◌*◌, ◌%◌, ◌^◌, ◌<◌, ◌≤◌, length, sum};
+ghost use Rattle.std.specs.Prelude.{slice_index};
 ghost use Rattle.op_list.specs.Types.{bits, bytes};
 ghost use Rattle.op_list.specs.Pixel.{element, element_of, HasElements};
 ghost use Rattle.op_list.specs.Store.{IsOtherPixel};
 
-use crate::place::Place;
+use crate::position::PixelPosition;
 use crate::types::PixType;
 
-/// Stores the elements of a pixel in a frame, as a Write of this type and these counts states them: the least significant bits of each number, and
-/// none for the numbers past the elements of a pixel. The type is a whole one, a pixel has at most four elements, the place lies in the frame, and the
-/// frame has the bytes of all its pixels' elements.
+/// Stores the elements of a pixel in a frame, as a Write of this type and these counts states
+/// them: the least significant bits of each number, and none for the numbers past the elements.
+///
+/// The type is a whole one, a pixel has at most four elements, the position lies in the frame, and
+/// the frame has the bytes of all its pixels' elements.
 pub fn store_elements(
     elem: PixType,
     planes: &[u8; 4],
     numbers: &[u32; 4],
-    place: &Place,
+    position: &PixelPosition,
     frame: &mut [u8],
 )
-    requires { HasElements elem planes.now frame.old place.now }
+    requires { HasElements elem planes.now frame.old position.now }
     ensures size { length frame.new ≡ length frame.old }
-    ensures stored { (i : ℕ) → i < sum planes.now → element_of elem planes.now frame.new place.now i ≡ slice_index numbers.now i % 2 ^ bits elem }
-    ensures others { (other : Place) → IsOtherPixel place.now other → (i : ℕ) → element_of elem planes.now frame.new other i ≡ element_of elem planes.now frame.old other i }
+    ensures stored { (i : ℕ) → i < sum planes.now
+        → element_of elem planes.now frame.new position.now i
+        ≡ slice_index numbers.now i % 2 ^ bits elem }
+    ensures others { (other : PixelPosition) → IsOtherPixel position.now other → (i : ℕ)
+        → element_of elem planes.now frame.new other i
+        ≡ element_of elem planes.now frame.old other i }
 {
-    store_element(elem, planes, place, 0, numbers[0], frame);
-    store_element(elem, planes, place, 1, numbers[1], frame);
-    store_element(elem, planes, place, 2, numbers[2], frame);
-    store_element(elem, planes, place, 3, numbers[3], frame);
+    store_element(elem, planes, position, 0, numbers[0], frame);
+    store_element(elem, planes, position, 1, numbers[1], frame);
+    store_element(elem, planes, position, 2, numbers[2], frame);
+    store_element(elem, planes, position, 3, numbers[3], frame);
 }
 
 // Stores element i of a pixel, where it has one.
 fn store_element(
     elem: PixType,
     planes: &[u8; 4],
-    place: &Place,
+    position: &PixelPosition,
     i: usize,
     number: u32,
     frame: &mut [u8],
 )
-    requires { HasElements elem planes.now frame.old place.now }
+    requires { HasElements elem planes.now frame.old position.now }
     ensures size { length frame.new ≡ length frame.old }
-    ensures stored { i < sum planes.now → element_of elem planes.now frame.new place.now i ≡ number % 2 ^ bits elem }
-    ensures kept { (j : ℕ) → j ≢ i → element_of elem planes.now frame.new place.now j ≡ element_of elem planes.now frame.old place.now j }
-    ensures others { (other : Place) → IsOtherPixel place.now other → (j : ℕ) → element_of elem planes.now frame.new other j ≡ element_of elem planes.now frame.old other j }
+    ensures stored { i < sum planes.now
+        → element_of elem planes.now frame.new position.now i ≡ number % 2 ^ bits elem }
+    ensures kept { (j : ℕ) → j ≢ i
+        → element_of elem planes.now frame.new position.now j
+        ≡ element_of elem planes.now frame.old position.now j }
+    ensures others { (other : PixelPosition) → IsOtherPixel position.now other → (j : ℕ)
+        → element_of elem planes.now frame.new other j
+        ≡ element_of elem planes.now frame.old other j }
 {
-    if let Some(k) = place.element_index(planes, i) {
+    if let Some(k) = position.element_index(planes, i) {
         set_element(elem, k, number, frame);
     }
 }

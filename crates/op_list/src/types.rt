@@ -1,5 +1,6 @@
 ghost use Rattle.std.specs.Prelude.{◌≡◌};
-ghost use Rattle.op_list.specs.Types.{bits, bytes, bits_at, is_whole_type, is_same, is_start, is_typed, has_type, is_whole, is_wide, is_rational};
+ghost use Rattle.op_list.specs.Types.{bits, bytes, bits_at, is_whole_type, is_same, is_start};
+ghost use Rattle.op_list.specs.Types.{is_typed, has_type, is_whole, is_wide, is_rational};
 
 /// The type of the four values of a pixel.
 #[derive(Clone, Copy, Debug, PartialEq, Eq)]

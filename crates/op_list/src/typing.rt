@@ -1,6 +1,7 @@
 ghost use Rattle.std.specs.Prelude.{◌≡◌, ◌≤◌, nat_eq};
 ghost use Rattle.std.specs.List.{list_all};
-ghost use Rattle.op_list.specs.Typing.{may_follow, is_write, stage_after, are_good, are_in_front, are_counts, fits_bits, all_fit};
+ghost use Rattle.op_list.specs.Typing.{may_follow, is_write, stage_after, are_good, are_in_front};
+ghost use Rattle.op_list.specs.Typing.{are_counts, fits_bits, all_fit};
 
 use crate::numbers::total;
 use crate::op::Op;
@@ -47,7 +48,18 @@ impl Op {
             Op::Read { elem, .. } => Stage::Typed(*elem),
             Op::Write { .. } => Stage::Ended,
             Op::Convert { to, .. } => Stage::Typed(*to),
-            _ => stage,
+            Op::SwapBytes
+            | Op::Unpack { .. }
+            | Op::Pack { .. }
+            | Op::Clear { .. }
+            | Op::LeftShift { .. }
+            | Op::RightShift { .. }
+            | Op::Swizzle { .. }
+            | Op::Dither { .. }
+            | Op::Linear { .. }
+            | Op::Scale { .. }
+            | Op::Min { .. }
+            | Op::Max { .. } => stage,
         }
     }
 
@@ -70,7 +82,11 @@ impl Op {
             Op::Convert { to, expand } => !*expand
                 || (stage.has_type(PixType::U8) && *to == PixType::U16),
             Op::Dither { k } => *k <= 4,
-            _ => true,
+            Op::SwapBytes
+            | Op::Linear { .. }
+            | Op::Scale { .. }
+            | Op::Min { .. }
+            | Op::Max { .. } => true,
         }
     }
 }

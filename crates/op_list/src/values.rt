@@ -1,6 +1,9 @@
-ghost use Rattle.std.specs.Prelude.{◌≡◌, true, false};
+ghost use Rattle.std.specs.Prelude.{◌≡◌, ◌<◌, All, true, false};
 ghost use Rattle.op_list.specs.Values.{four, number, are_fractions};
+ghost use Rattle.op_list.specs.Apply.{swizzled};
 
+use crate::fractions::swizzled_fractions;
+use crate::numbers::swizzled_numbers;
 use frac_math::Frac;
 
 // The four values of a pixel.
@@ -41,6 +44,17 @@ impl Values {
         match self {
             Values::Numbers(_) => unreachable!(),
             Values::Fractions(values) => values,
+        }
+    }
+
+    // New value i is old value from[i].
+    pub(crate) fn swizzled(&self, from: &[u8; 4]) -> Values
+        requires { All (λ i. i < 4) from.now }
+        ensures { result ≡ swizzled from.now self.now }
+    {
+        match self {
+            Values::Numbers(values) => Values::Numbers(swizzled_numbers(from, values)),
+            Values::Fractions(values) => Values::Fractions(swizzled_fractions(from, values)),
         }
     }
 }

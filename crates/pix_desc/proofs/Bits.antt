@@ -11,18 +11,22 @@ use Rattle.std.proofs.lemmas.Nat.Bits.{bit_at-zero, bit_at_cat_low, bit_at_cat_h
 pub bit_at_field : (n shift depth i : ℕ) → i < depth → bit_at (n / 2 ^ shift % 2 ^ depth) i ≡ bit_at n (shift + i)
 bit_at_field n shift depth i inside =
     let m = n / 2 ^ shift in
-    sym (bit_at_cat_low (m / 2 ^ depth) depth (m % 2 ^ depth) i inside) ∙ ap (λ k. bit_at k i) (shr_split m depth) ∙ ap (λ k. k % 2) (shr-shr n shift i)
+    sym (bit_at_cat_low (m / 2 ^ depth) depth (m % 2 ^ depth) i inside) ∙ ap (λ k. bit_at k i) (shr_split m depth)
+    ∙ ap (λ k. k % 2) (shr-shr n shift i)
 
 -- a number of two bytes has the bits of its low byte, and above them those of its high byte
 pub bit_at_low_byte : (low high m : ℕ) → m < 8 → bit_at (low + 256 * high) m ≡ bit_at low m
-bit_at_low_byte low high m below = let e : low + 256 * high ≡ high * 2 ^ 8 + low = omega arith in ap (λ n. bit_at n m) e ∙ bit_at_cat_low high 8 low m below
+bit_at_low_byte low high m below = let e : low + 256 * high ≡ high * 2 ^ 8 + low = omega arith in ap (λ n. bit_at n m) e
+    ∙ bit_at_cat_low high 8 low m below
 
 pub bit_at_high_byte : (low high m : ℕ) → low < 256 → 8 ≤ m → bit_at (low + 256 * high) m ≡ bit_at high (m - 8)
-bit_at_high_byte low high m small above = let e : low + 256 * high ≡ high * 2 ^ 8 + low = omega arith in ap (λ n. bit_at n m) e ∙ bit_at_cat_high high 8 low m small above
+bit_at_high_byte low high m small above = let e : low + 256 * high ≡ high * 2 ^ 8 + low = omega arith in ap (λ n. bit_at n m) e
+    ∙ bit_at_cat_high high 8 low m small above
 
 -- the bits of the low and of the high byte of a number
 pub bit_at_mod_byte : (n b : ℕ) → b < 8 → bit_at (n % 256) b ≡ bit_at n b
-bit_at_mod_byte n b below = sym (bit_at_low_byte (n % 256) (n / 256) b below) ∙ (let e : n % 256 + 256 * (n / 256) ≡ n = omega arith in ap (λ k. bit_at k b) e)
+bit_at_mod_byte n b below = sym (bit_at_low_byte (n % 256) (n / 256) b below)
+    ∙ (let e : n % 256 + 256 * (n / 256) ≡ n = omega arith in ap (λ k. bit_at k b) e)
 
 pub bit_at_div_byte : (n b : ℕ) → bit_at (n / 256) b ≡ bit_at n (8 + b)
 bit_at_div_byte n b = ap (λ k. k % 2) (shr-shr n 8 b)
@@ -40,9 +44,11 @@ bit_at_shifted_below v shift m low =
     ap (λ n. bit_at n m) whole ∙ bit_at_cat_low v shift 0 m low ∙ bit_at-zero m
 
 pub bit_at_shifted_above : (v shift depth m : ℕ) → v < 2 ^ depth → shift + depth ≤ m → bit_at (v * 2 ^ shift) m ≡ 0
-bit_at_shifted_above v shift depth m small past = bit_at_above (v * 2 ^ shift) (depth + shift) m (shl_below v depth shift small) (omega arith)
+bit_at_shifted_above v shift depth m small past =
+    bit_at_above (v * 2 ^ shift) (depth + shift) m (shl_below v depth shift small) (omega arith)
 
-pub bit_at_shifted_cases : (v shift depth m : ℕ) → v < 2 ^ depth → (bit_at (v * 2 ^ shift) m ≡ 0) ⊎ ((i : ℕ) × (i < depth) × (shift + i ≡ m))
+pub bit_at_shifted_cases : (v shift depth m : ℕ) → v < 2 ^ depth
+    → (bit_at (v * 2 ^ shift) m ≡ 0) ⊎ ((i : ℕ) × (i < depth) × (shift + i ≡ m))
 bit_at_shifted_cases v shift depth m small =
     ⊎_elim
     (λ low. inl (bit_at_shifted_below v shift m low))
@@ -78,7 +84,8 @@ sum_more f a k = sum_by-cons f a (range_with_len (a + 1) k)
 pub sum_from_same : (f g : ℕ → ℕ) (a k : ℕ) → ((j : ℕ) → a ≤ j → j < a + k → f j ≡ g j) → sum_from f a k ≡ sum_from g a k
 sum_from_same f g a zero same = refl
 sum_from_same f g a (suc k) same =
-    sum_more f a k ∙ (let here = same a (omega arith) (omega arith) in let rest = sum_from_same f g (a + 1) k (λ j low high. same j (omega arith) (omega arith)) in omega arith) ∙ sym (sum_more g a k)
+    sum_more f a k ∙ (let here = same a (omega arith) (omega arith) in let rest =
+    sum_from_same f g (a + 1) k (λ j low high. same j (omega arith) (omega arith)) in omega arith) ∙ sym (sum_more g a k)
 
 -- a bit is 0, or bit b of f j for one j of the k numbers from a on
 abbrev IsBitOf : (ℕ → ℕ) → ℕ → ℕ → ℕ → ℕ → Type 0
@@ -86,11 +93,13 @@ IsBitOf f a k b bit = (bit ≡ 0) ⊎ ((j : ℕ) × (a ≤ j) × (j < a + k) × 
 
 -- numbers f j for j below n, of which no two share a bit
 module _ (f : ℕ → ℕ) (n : ℕ) (apart : (i j : ℕ) → i < n → j < n → i ≢ j → SharesNoBit (f i) (f j)) where
-  shares_none : (a k : ℕ) → a + suc k ≤ n → ((b : ℕ) → IsBitOf f (a + 1) k b (bit_at (sum_from f (a + 1) k) b)) → SharesNoBit (f a) (sum_from f (a + 1) k)
+  shares_none : (a k : ℕ) → a + suc k ≤ n → ((b : ℕ) → IsBitOf f (a + 1) k b (bit_at (sum_from f (a + 1) k) b))
+      → SharesNoBit (f a) (sum_from f (a + 1) k)
   shares_none a k within cases b =
       ⊎_elim
       (λ none. omega arith)
-      (λ one. let differ : a ≢ one.0 = omega (arith, one.1) in omega (arith, one.3, apart a one.0 (omega arith) (omega (arith, one.2)) differ b))
+      (λ one. let differ : a ≢ one.0 = omega (arith, one.1) in
+      omega (arith, one.3, apart a one.0 (omega arith) (omega (arith, one.2)) differ b))
       (cases b)
 
   pick : (a k b tail : ℕ) → a < n → a + suc k ≤ n → IsBitOf f (a + 1) k b tail → IsBitOf f a (suc k) b (max (bit_at (f a) b) tail)
@@ -121,7 +130,8 @@ module _ (f : ℕ → ℕ) (n : ℕ) (apart : (i j : ℕ) → i < n → j < n �
   bit_at_sum_has : (a k b j : ℕ) → a + k ≤ n → a ≤ j → j < a + k → bit_at (f j) b ≤ bit_at (sum_from f a k) b
   bit_at_sum_has a zero b j within low high = absurd (omega arith)
   bit_at_sum_has a (suc k) b j within low high =
-      let split : bit_at (sum_from f a (suc k)) b ≡ max (bit_at (f a) b) (bit_at (sum_from f (a + 1) k) b) = ap (λ s. bit_at s b) (sum_more f a k) ∙ bit_at_sum (f a) (sum_from f (a + 1) k) b (tail_shares_none a k within) in
+      let split : bit_at (sum_from f a (suc k)) b ≡ max (bit_at (f a) b) (bit_at (sum_from f (a + 1) k) b) =
+      ap (λ s. bit_at s b) (sum_more f a k) ∙ bit_at_sum (f a) (sum_from f (a + 1) k) b (tail_shares_none a k within) in
       ⊎_elim
       (λ (here : a ≡ j). omega (arith, ap (λ i. bit_at (f i) b) here))
       (λ (there : a ≢ j). omega (arith, bit_at_sum_has (a + 1) k b j (omega arith) (omega arith) (omega arith)))
@@ -148,4 +158,5 @@ module _ (f : ℕ → ℕ) (n : ℕ) (apart : (i j : ℕ) → i < n → j < n �
   sum_from_below w a zero within small = pow_pos w
   sum_from_below w a (suc k) within small =
       subst (λ s. s < 2 ^ w) (sym (sum_more f a k))
-      (sum_below w (f a) (sum_from f (a + 1) k) (tail_shares_none a k within) (small a (omega arith)) (sum_from_below w (a + 1) k (omega arith) small))
+      (sum_below w (f a) (sum_from f (a + 1) k) (tail_shares_none a k within) (small a (omega arith))
+      (sum_from_below w (a + 1) k (omega arith) small))

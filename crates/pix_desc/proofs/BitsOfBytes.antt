@@ -1,4 +1,5 @@
--- The bits of a number of one or two bytes in either byte order: in which byte each stands, when the number is read and when it is taken apart.
+-- The bits of a number of one or two bytes in either byte order: in which byte each stands, when the number is read and when it is taken
+-- apart.
 use Rattle.std.proofs.Common.{◌≡◌, ℕ, ◌+◌, ◌-◌, ◌*◌, ◌/◌, ◌%◌, ◌^◌, ◌<◌, ◌≤◌, ◌⊎◌, inl, inr, ⊎_elim, Bool, true, false, not, ◌&&◌, if◌then◌else◌, nat_eq, ap, ◌∙◌, arith}
 use Rattle.std.specs.Int.{bit_at}
 use Rattle.std.proofs.lemmas.Bool.{cases_lt}
@@ -34,10 +35,12 @@ pub record IsBitAt (narrow be : Bool) (first m k b : ℕ) : Type 0 where
   pub bit : b ≡ m % 8
 
 -- each bit of the number's bytes is one of the number
-pub bit_here : (narrow be : Bool) (first k b : ℕ) → b < 8 → first ≤ k → k < first + (if narrow then 1 else 2) → (m : ℕ) × IsBitAt narrow be first m k b
+pub bit_here : (narrow be : Bool) (first k b : ℕ) → b < 8 → first ≤ k → k < first + (if narrow then 1 else 2)
+    → (m : ℕ) × IsBitAt narrow be first m k b
 bit_here true true first k b below from to = (b, record { inside = omega arith; byte = omega arith; bit = omega arith })
 bit_here true false first k b below from to = (b, record { inside = omega arith; byte = omega arith; bit = omega arith })
-bit_here false true first k b below from to = (8 * (first + 1 - k) + b, record { inside = omega arith; byte = omega arith; bit = omega arith })
+bit_here false true first k b below from to =
+    (8 * (first + 1 - k) + b, record { inside = omega arith; byte = omega arith; bit = omega arith })
 bit_here false false first k b below from to = (8 * (k - first) + b, record { inside = omega arith; byte = omega arith; bit = omega arith })
 
 -- a bit of the number is a bit of the byte that holds it
@@ -56,15 +59,18 @@ bit_at_number false true bytes first m k b small at =
     let byte : k ≡ first + (1 - m / 8) = at.byte in
     let turned : 256 * bytes first + bytes (first + 1) ≡ bytes (first + 1) + 256 * bytes first = omega arith in
     ap (λ n. bit_at n m) turned ∙ ⊎_elim
-    (λ low. bit_at_low_byte (bytes (first + 1)) (bytes first) m low ∙ same_bit bytes (first + 1) k m b (omega arith) (omega (arith, at.bit)))
-    (λ high. bit_at_high_byte (bytes (first + 1)) (bytes first) m (small (first + 1)) high ∙ same_bit bytes first k (m - 8) b (omega arith) (omega (arith, at.bit)))
+    (λ low. bit_at_low_byte (bytes (first + 1)) (bytes first) m low
+    ∙ same_bit bytes (first + 1) k m b (omega arith) (omega (arith, at.bit)))
+    (λ high. bit_at_high_byte (bytes (first + 1)) (bytes first) m (small (first + 1)) high
+    ∙ same_bit bytes first k (m - 8) b (omega arith) (omega (arith, at.bit)))
     (cases_lt m 8)
 bit_at_number false false bytes first m k b small at =
     let inside : m < 16 = at.inside in
     let byte : k ≡ first + m / 8 = at.byte in
     ⊎_elim
     (λ low. bit_at_low_byte (bytes first) (bytes (first + 1)) m low ∙ same_bit bytes first k m b (omega arith) (omega (arith, at.bit)))
-    (λ high. bit_at_high_byte (bytes first) (bytes (first + 1)) m (small first) high ∙ same_bit bytes (first + 1) k (m - 8) b (omega arith) (omega (arith, at.bit)))
+    (λ high. bit_at_high_byte (bytes first) (bytes (first + 1)) m (small first) high
+    ∙ same_bit bytes (first + 1) k (m - 8) b (omega arith) (omega (arith, at.bit)))
     (cases_lt m 8)
 
 -- what a number puts into byte k, where its bytes begin with byte `first`
@@ -103,24 +109,31 @@ part_behind true be first number k behind = grind (arith, nat_tests)
 part_behind false be first number k behind = grind (arith, nat_tests)
 
 -- a bit of the number is in its byte as in the number
-pub bit_at_part : (narrow be : Bool) (first number m k b : ℕ) → IsBitAt narrow be first m k b → bit_at (part_of narrow be first number k) b ≡ bit_at number m
+pub bit_at_part : (narrow be : Bool) (first number m k b : ℕ) → IsBitAt narrow be first m k b
+    → bit_at (part_of narrow be first number k) b ≡ bit_at number m
 bit_at_part true be first number m k b at =
     let inside : m < 8 = at.inside in
     let same : b ≡ m = omega (arith, at.bit) in
-    let index : k ≡ first = elim be as (λ v. k ≡ first + byte_of true v m → k ≡ first) [ true ↦ λ e. omega arith | false ↦ λ e. omega arith ] at.byte in
+    let index : k ≡ first = elim be as (λ v. k ≡ first + byte_of true v m
+    → k ≡ first) [ true ↦ λ e. omega arith | false ↦ λ e. omega arith ] at.byte in
     ap (λ n. bit_at n b) (part_first true be first number k index) ∙ ap (bit_at number) same
 bit_at_part false true first number m k b at =
     let byte : k ≡ first + (1 - m / 8) = at.byte in
     ⊎_elim
-    (λ (low : m < 8). ap (λ n. bit_at n b) (part_second true first number k (omega (arith, byte))) ∙ bit_at_mod_byte number b (omega (arith, at.bit)) ∙ (let same : b ≡ m = omega (arith, at.bit) in ap (bit_at number) same))
-    (λ (high : 8 ≤ m). ap (λ n. bit_at n b) (part_first false true first number k (let i : m < 16 = at.inside in omega (arith, byte))) ∙ bit_at_div_byte number b ∙ (let i : m < 16 = at.inside in let same : 8 + b ≡ m = omega (arith, at.bit) in ap (bit_at number) same))
+    (λ (low : m < 8). ap (λ n. bit_at n b) (part_second true first number k (omega (arith, byte)))
+    ∙ bit_at_mod_byte number b (omega (arith, at.bit)) ∙ (let same : b ≡ m = omega (arith, at.bit) in ap (bit_at number) same))
+    (λ (high : 8 ≤ m). ap (λ n. bit_at n b) (part_first false true first number k (let i : m < 16 = at.inside in omega (arith, byte)))
+    ∙ bit_at_div_byte number b ∙ (let i : m < 16 = at.inside in let same : 8 + b ≡ m = omega (arith, at.bit) in
+    ap (bit_at number) same))
     (cases_lt m 8)
 bit_at_part false false first number m k b at =
     let byte : k ≡ first + m / 8 = at.byte in
     let inside : m < 16 = at.inside in
     ⊎_elim
-    (λ (low : m < 8). ap (λ n. bit_at n b) (part_first false false first number k (omega (arith, byte))) ∙ bit_at_mod_byte number b (omega (arith, at.bit)) ∙ (let same : b ≡ m = omega (arith, at.bit) in ap (bit_at number) same))
-    (λ (high : 8 ≤ m). ap (λ n. bit_at n b) (part_second false first number k (omega (arith, byte))) ∙ bit_at_div_byte number b ∙ (let same : 8 + b ≡ m = omega (arith, at.bit) in ap (bit_at number) same))
+    (λ (low : m < 8). ap (λ n. bit_at n b) (part_first false false first number k (omega (arith, byte)))
+    ∙ bit_at_mod_byte number b (omega (arith, at.bit)) ∙ (let same : b ≡ m = omega (arith, at.bit) in ap (bit_at number) same))
+    (λ (high : 8 ≤ m). ap (λ n. bit_at n b) (part_second false first number k (omega (arith, byte))) ∙ bit_at_div_byte number b
+    ∙ (let same : 8 + b ≡ m = omega (arith, at.bit) in ap (bit_at number) same))
     (cases_lt m 8)
 
 -- a bit of a byte is 0, or is a bit of the number

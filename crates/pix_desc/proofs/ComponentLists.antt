@@ -12,20 +12,26 @@ use Rattle.pix_desc.specs.Frame.{step_in}
 use Rattle.pix_desc.specs.Layouts.{some_component, some_two, some_pair, differ_in_step}
 
 -- a test that no element passes fails at each index, and one that all pass passes
-pub list_any-false : {X : Type 0} (p : X → Bool) (xs : List X) (j : ℕ) (d : X) → list_any p xs ≡ false → j < length xs → p (get_or xs j d) ≡ false
-list_any-false p xs j d none within = false_from_ne_true (p (get_or xs j d)) (λ e. both_ways (list_any p xs) none (list_any_at p xs j d within e))
+pub list_any-false : {X : Type 0} (p : X → Bool) (xs : List X) (j : ℕ) (d : X) → list_any p xs ≡ false → j < length xs
+    → p (get_or xs j d) ≡ false
+list_any-false p xs j d none within =
+    false_from_ne_true (p (get_or xs j d)) (λ e. both_ways (list_any p xs) none (list_any_at p xs j d within e))
 
-pub list_all-true : {X : Type 0} (p : X → Bool) (xs : List X) (j : ℕ) (d : X) → list_all p xs ≡ true → j < length xs → p (get_or xs j d) ≡ true
-list_all-true p xs j d all within = true_from_ne_false (p (get_or xs j d)) (λ e. both_ways (list_all p xs) (list_all_at p xs j d within e) all)
+pub list_all-true : {X : Type 0} (p : X → Bool) (xs : List X) (j : ℕ) (d : X) → list_all p xs ≡ true → j < length xs
+    → p (get_or xs j d) ≡ true
+list_all-true p xs j d all within =
+    true_from_ne_false (p (get_or xs j d)) (λ e. both_ways (list_all p xs) (list_all_at p xs j d within e) all)
 
 -- the same of a list that is made from a function of the index
-pub list_any-map_false : {X : Type 0} (f : ℕ → X) (p : X → Bool) (n j : ℕ) → list_any p (map f (range_with_len 0 n)) ≡ false → j < n → p (f j) ≡ false
+pub list_any-map_false : {X : Type 0} (f : ℕ → X) (p : X → Bool) (n j : ℕ) → list_any p (map f (range_with_len 0 n)) ≡ false → j < n
+    → p (f j) ≡ false
 list_any-map_false f p n j none within =
     let at = get_or-map-range_with_len f 0 n j j (f j) within (omega arith) in
     let long : j < length (map f (range_with_len 0 n)) = omega (arith, length-map-range_with_len f 0 n) in
     ap p (sym at) ∙ list_any-false p (map f (range_with_len 0 n)) j (f j) none long
 
-pub list_all-map_true : {X : Type 0} (f : ℕ → X) (p : X → Bool) (n j : ℕ) → list_all p (map f (range_with_len 0 n)) ≡ true → j < n → p (f j) ≡ true
+pub list_all-map_true : {X : Type 0} (f : ℕ → X) (p : X → Bool) (n j : ℕ) → list_all p (map f (range_with_len 0 n)) ≡ true → j < n
+    → p (f j) ≡ true
 list_all-map_true f p n j all within =
     let at = get_or-map-range_with_len f 0 n j j (f j) within (omega arith) in
     let long : j < length (map f (range_with_len 0 n)) = omega (arith, length-map-range_with_len f 0 n) in
@@ -45,12 +51,14 @@ list_all-below_true p n k all within =
     ap p (sym at) ∙ list_all-true p (range_with_len 0 n) k 0 all long
 
 -- no two elements are so that have holds of them, the earlier first
-pub some_two-false : (have : Comp → Comp → Bool) (cs : List Comp) (i j : ℕ) (d : Comp) → some_two have cs ≡ false → i < j → j < length cs → have (get_or cs i d) (get_or cs j d) ≡ false
+pub some_two-false : (have : Comp → Comp → Bool) (cs : List Comp) (i j : ℕ) (d : Comp) → some_two have cs ≡ false → i < j → j < length cs
+    → have (get_or cs i d) (get_or cs j d) ≡ false
 some_two-false have [] i j d none before within = absurd (omega arith)
 some_two-false have (c ∷ cs) zero zero d none before within = absurd (omega arith)
 some_two-false have (c ∷ cs) zero (suc j) d none before within = list_any-false (have c) cs j d (or_parts _ _ none).0 (omega arith)
 some_two-false have (c ∷ cs) (suc i) zero d none before within = absurd (omega arith)
-some_two-false have (c ∷ cs) (suc i) (suc j) d none before within = some_two-false have cs i j d (or_parts (list_any (have c) cs) (some_two have cs) none).1 (omega arith) (omega arith)
+some_two-false have (c ∷ cs) (suc i) (suc j) d none before within =
+    some_two-false have cs i j d (or_parts (list_any (have c) cs) (some_two have cs) none).1 (omega arith) (omega arith)
 
 -- component j stands at j
 pub get_or-components : (desc : Desc) (j : ℕ) (d : Comp) → j < desc.count → get_or (components desc) j d ≡ component_of desc j
@@ -60,7 +68,8 @@ pub length-components : (desc : Desc) → length (components desc) ≡ desc.coun
 length-components desc = length-map-range_with_len (component_of desc) 0 desc.count
 
 -- what no component is, component j is not
-pub some_component-false : (desc : Desc) (has : Comp → Bool) (j : ℕ) → some_component desc has ≡ false → j < desc.count → has (component_of desc j) ≡ false
+pub some_component-false : (desc : Desc) (has : Comp → Bool) (j : ℕ) → some_component desc has ≡ false → j < desc.count
+    → has (component_of desc j) ≡ false
 some_component-false desc has j none listed = list_any-map_false (component_of desc) has desc.count j none listed
 
 -- what some number below n is, one of them is
@@ -72,14 +81,16 @@ list_any-below_at p n some =
     (any.1, omega (arith, at, within), any.4)
 
 -- and what some component is
-pub some_component-at : (desc : Desc) (has : Comp → Bool) → some_component desc has ≡ true → (i : ℕ) × (i < desc.count) × (has (component_of desc i) ≡ true)
+pub some_component-at : (desc : Desc) (has : Comp → Bool) → some_component desc has ≡ true
+    → (i : ℕ) × (i < desc.count) × (has (component_of desc i) ≡ true)
 some_component-at desc has some =
     let any = Any-from_list_any has (components desc) some in
     let listed : any.0 < desc.count = omega (arith, any.2, length-components desc) in
     (any.0, listed, ap has (sym (get_or-components desc any.0 any.1 listed) ∙ any.3) ∙ any.4)
 
 -- two components are not as no pair is
-pub some_pair-false : (desc : Desc) (have : Comp → Comp → Bool) (i j : ℕ) → some_pair desc have ≡ false → i < j → j < desc.count → have (component_of desc i) (component_of desc j) ≡ false
+pub some_pair-false : (desc : Desc) (have : Comp → Comp → Bool) (i j : ℕ) → some_pair desc have ≡ false → i < j → j < desc.count
+    → have (component_of desc i) (component_of desc j) ≡ false
 some_pair-false desc have i j none before listed =
     let first = get_or-components desc i no_component (omega arith) in
     let second = get_or-components desc j no_component listed in
@@ -87,7 +98,8 @@ some_pair-false desc have i j none before listed =
     rw (first, second) at none_of
 
 -- the bytes of a pixel in component j's plane, where the components of a plane agree, are those that it says
-pub step_in-plane : (cs : List Comp) (j : ℕ) (d : Comp) → some_two differ_in_step cs ≡ false → j < length cs → step_in (get_or cs j d).plane cs ≡ (get_or cs j d).step
+pub step_in-plane : (cs : List Comp) (j : ℕ) (d : Comp) → some_two differ_in_step cs ≡ false → j < length cs
+    → step_in (get_or cs j d).plane cs ≡ (get_or cs j d).step
 step_in-plane [] j d none within = absurd (omega arith)
 step_in-plane (c ∷ cs) zero d none within = cond-true (nat_eq c.plane c.plane) c.step (step_in c.plane cs) (eq-eqb c.plane c.plane refl)
 step_in-plane (c ∷ cs) (suc j) d none within =
@@ -102,4 +114,5 @@ step_in-plane (c ∷ cs) (suc j) d none within =
 pub take-comps : (desc : Desc) → length desc.comps ≡ 4 → desc.count ≤ 4 → take desc.count desc.comps ≡ components desc
 take-comps desc four most =
     let long : length (take desc.count desc.comps) ≡ desc.count = omega (arith, length-take desc.count desc.comps) in
-    fill_by_all (component_of desc) (take desc.count desc.comps) desc.count no_component long (λ k below. get_or-take desc.count desc.comps k no_component below)
+    fill_by_all (component_of desc) (take desc.count desc.comps) desc.count no_component long
+    (λ k below. get_or-take desc.count desc.comps k no_component below)

@@ -8,16 +8,19 @@ use Rattle.pix_desc.proofs.FrameExists as Exists
 use Rattle.pix_desc.proofs.FrameOnly as Only
 
 -- the frame that is made of values says them
-pub frame_says : (desc : Desc) (width height : ℕ) (value : ℕ → ℕ → ℕ → ℕ) → IsValid desc → desc.palette ≡ false → FitDepths desc width height value
+pub frame_says : (desc : Desc) (width height : ℕ) (value : ℕ → ℕ → ℕ → ℕ) → IsValid desc → desc.palette ≡ false
+    → FitDepths desc width height value
     → IsFrameOf desc width height value (frame_of desc width height value)
 frame_says desc width height value valid none fit = Exists.frame_says desc width height value (laid_out desc valid) fit none
 
 -- a frame that says them is that one
-pub only_frame : (desc : Desc) (width height : ℕ) (value : ℕ → ℕ → ℕ → ℕ) (frame : List ℕ) → IsValid desc → desc.palette ≡ false → IsFrameOf desc width height value frame
+pub only_frame : (desc : Desc) (width height : ℕ) (value : ℕ → ℕ → ℕ → ℕ) (frame : List ℕ) → IsValid desc → desc.palette ≡ false
+    → IsFrameOf desc width height value frame
     → frame ≡ frame_of desc width height value
 only_frame desc width height value frame valid none says = Only.only_frame desc width height value (laid_out desc valid) frame none says
 
-pub one_frame : (desc : Desc) (width height : ℕ) (value : ℕ → ℕ → ℕ → ℕ) → IsValid desc → desc.palette ≡ false → HasOneFrame desc width height value
+pub one_frame : (desc : Desc) (width height : ℕ) (value : ℕ → ℕ → ℕ → ℕ) → IsValid desc → desc.palette ≡ false
+    → HasOneFrame desc width height value
 one_frame desc width height value valid none = record {
   says = frame_says desc width height value valid none;
   only = λ frame says. only_frame desc width height value frame valid none says;
@@ -26,4 +29,5 @@ one_frame desc width height value valid none = record {
 -- two frames that say the same values are one
 pub same_frames : (desc : Desc) (width height : ℕ) (value : ℕ → ℕ → ℕ → ℕ) (a b : List ℕ) → IsValid desc → desc.palette ≡ false
     → IsFrameOf desc width height value a → IsFrameOf desc width height value b → a ≡ b
-same_frames desc width height value a b valid none first second = Only.same_frames desc width height value (laid_out desc valid) a b none first second
+same_frames desc width height value a b valid none first second =
+    Only.same_frames desc width height value (laid_out desc valid) a b none first second

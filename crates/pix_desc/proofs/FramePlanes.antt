@@ -9,21 +9,26 @@ use Rattle.pix_desc.specs.declared.desc.Desc.{Desc}
 use Rattle.pix_desc.specs.Frame.{plane_step, row_length, plane_length, plane_start, row_start, pixel_byte, plane_byte, planes_of}
 
 -- the planes before one end where it begins
-plane_end : (desc : Desc) (width height m p : ℕ) → p < m → plane_start desc width height p + plane_length desc width height p ≤ plane_start desc width height m
+plane_end : (desc : Desc) (width height m p : ℕ) → p < m
+    → plane_start desc width height p + plane_length desc width height p ≤ plane_start desc width height m
 plane_end desc width height zero p below = absurd (omega arith)
 plane_end desc width height (suc m) p below =
     ⊎_elim
     (λ (earlier : p < m). omega (arith, plane_end desc width height m p earlier))
     (λ (last : m ≤ p).
     let same : p ≡ m = omega arith in
-    subst (λ q. plane_start desc width height q + plane_length desc width height q ≤ plane_start desc width height m + plane_length desc width height m) (sym same) (omega arith))
+    subst (λ q. plane_start desc width height q + plane_length desc width height q ≤ plane_start desc width height m
+    + plane_length desc width height m) (sym same) (omega arith))
     (cases_lt p m)
 
-pub length-planes_of : (desc : Desc) (width height : ℕ) (value : ℕ → ℕ → ℕ → ℕ) (m : ℕ) → length (planes_of desc width height value m) ≡ plane_start desc width height m
+pub length-planes_of : (desc : Desc) (width height : ℕ) (value : ℕ → ℕ → ℕ → ℕ) (m : ℕ)
+    → length (planes_of desc width height value m) ≡ plane_start desc width height m
 length-planes_of desc width height value zero = refl
 length-planes_of desc width height value (suc m) =
-    length-append (planes_of desc width height value m) (map (plane_byte desc width value m) (range_with_len 0 (plane_length desc width height m)))
-    ∙ (let before = length-planes_of desc width height value m in let here = length-map-range_with_len (plane_byte desc width value m) 0 (plane_length desc width height m) in omega arith)
+    length-append (planes_of desc width height value m)
+    (map (plane_byte desc width value m) (range_with_len 0 (plane_length desc width height m)))
+    ∙ (let before = length-planes_of desc width height value m in let here =
+    length-map-range_with_len (plane_byte desc width value m) 0 (plane_length desc width height m) in omega arith)
 
 -- byte k of plane p
 plane_at : (desc : Desc) (width height : ℕ) (value : ℕ → ℕ → ℕ → ℕ) (m p k : ℕ) → p < m → k < plane_length desc width height p
@@ -61,7 +66,8 @@ find_plane : (desc : Desc) (width height m at : ℕ) → at < plane_start desc w
 find_plane desc width height zero at below = absurd (omega arith)
 find_plane desc width height (suc m) at below =
     ⊎_elim
-    (λ (earlier : at < plane_start desc width height m). let found = find_plane desc width height m at earlier in (found.0, found.1, omega (arith, found.2), found.3, found.4))
+    (λ (earlier : at < plane_start desc width height m). let found = find_plane desc width height m at earlier in
+    (found.0, found.1, omega (arith, found.2), found.3, found.4))
     (λ (last : plane_start desc width height m ≤ at). (m, at - plane_start desc width height m, omega arith, omega arith, omega arith))
     (cases_lt at (plane_start desc width height m))
 
@@ -71,13 +77,20 @@ byte_in_plane : (k height width step : ℕ) → k < height * (width * step)
     × (k ≡ k / (width * step) * (width * step) + (k % (width * step) / step * step + k % (width * step) % step))
 byte_in_plane k height width step below =
     let row = width * step in
-    let some : 0 < row = ⊎_elim (λ p. p) (λ none. let zero_row : row ≡ 0 = omega arith in absurd (omega (arith, ap (λ r. height * r) zero_row))) (cases_lt 0 row) in
-    let some_step : 0 < step = ⊎_elim (λ p. p) (λ none. let zero_step : step ≡ 0 = omega arith in absurd (omega (arith, ap (λ s. width * s) zero_step))) (cases_lt 0 step) in
-    let rest : k % row < row = omega arith in
-    (div_below k row height some below, div_below (k % row) step width some_step rest, omega arith, omega (arith, div-add-mod' k row, div-add-mod' (k % row) step))
+    let some : 0 < row = ⊎_elim (λ p. p) (λ none. let zero_row : row ≡ 0 = omega arith in
+    absurd (omega (arith, ap (λ r. height * r) zero_row))) (cases_lt 0 row) in
+    let some_step : 0 < step = ⊎_elim (λ p. p) (λ none. let zero_step : step ≡ 0 = omega arith in
+    absurd (omega (arith, ap (λ s. width * s) zero_step))) (cases_lt 0 step) in
+    let rest : k % row < row = omega arith in (
+      div_below k row height some below,
+      div_below (k % row) step width some_step rest,
+      omega arith,
+      omega (arith, div-add-mod' k row, div-add-mod' (k % row) step),
+    )
 
 -- each byte of the planes is a byte of a pixel
-pub find_byte : (desc : Desc) (width height at : ℕ) → at < plane_start desc width height 4 → (p x y o : ℕ) × IsByteOf desc width height at p x y o
+pub find_byte : (desc : Desc) (width height at : ℕ) → at < plane_start desc width height 4
+    → (p x y o : ℕ) × IsByteOf desc width height at p x y o
 unfolding row_start
 find_byte desc width height at below =
     let found = find_plane desc width height 4 at below in
@@ -85,8 +98,13 @@ find_byte desc width height at below =
     let k = found.1 in
     let step = plane_step desc p in
     let row = width * step in
-    let parts = byte_in_plane k height width step found.3 in
-    (p, k % row / step, k / row, k % row % step, record { plane = found.2; column = parts.1; row = parts.0; byte = parts.2; index = omega (arith, found.4, parts.3) })
+    let parts = byte_in_plane k height width step found.3 in (
+      p,
+      k % row / step,
+      k / row,
+      k % row % step,
+      record { plane = found.2; column = parts.1; row = parts.0; byte = parts.2; index = omega (arith, found.4, parts.3) },
+    )
 
 -- byte k of a plane, where it is byte o of the pixel at x and y
 plane_byte_is : (desc : Desc) (width : ℕ) (value : ℕ → ℕ → ℕ → ℕ) (p x y o : ℕ) → x < width → o < plane_step desc p

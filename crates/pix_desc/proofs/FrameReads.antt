@@ -29,7 +29,8 @@ read_position desc c k reads =
 pub position_reads : (desc : Desc) (c : Comp) (k : ℤ) (i : ℕ) → i < c.depth → bit_position desc c i ≡ k → reads_bit desc c k ≡ true
 position_reads desc c k i inside at =
     true_from_ne_false (reads_bit desc c k) (λ none.
-    both_ways (int_eq (bit_position desc c i) k) (list_any-below_false (λ t. int_eq (bit_position desc c t) k) c.depth i none inside) ((Decides-int_eq (bit_position desc c i) k).1 at))
+    both_ways (int_eq (bit_position desc c i) k) (list_any-below_false (λ t. int_eq (bit_position desc c t) k) c.depth i none inside)
+    ((Decides-int_eq (bit_position desc c i) k).1 at))
 
 -- a bit that is read is a bit of some component
 pub read_by : (desc : Desc) (plane k : ℕ) → reads_pixel_bit desc plane k ≡ true → (j : ℕ) × (i : ℕ) × IsReadBy desc plane k j i
@@ -43,10 +44,13 @@ read_by desc plane k reads =
 -- a bit of a component is read
 pub reads_from : (desc : Desc) (plane k j i : ℕ) → IsReadBy desc plane k j i → reads_pixel_bit desc plane k ≡ true
 reads_from desc plane k j i by =
-    let is : get_or (components desc) j (component_of desc j) ≡ component_of desc j = get_or-components desc j (component_of desc j) by.listed in
-    list_any_at (λ c. nat_eq c.plane plane && reads_bit desc c (pos k)) (components desc) j (component_of desc j) (omega (arith, by.listed, length-components desc))
+    let is : get_or (components desc) j (component_of desc j) ≡ component_of desc j =
+    get_or-components desc j (component_of desc j) by.listed in
+    list_any_at (λ c. nat_eq c.plane plane && reads_bit desc c (pos k)) (components desc) j (component_of desc j)
+    (omega (arith, by.listed, length-components desc))
     (subst (λ c. (nat_eq c.plane plane && reads_bit desc c (pos k)) ≡ true) (sym is)
-    (and_from (nat_eq (component_of desc j).plane plane) (reads_bit desc (component_of desc j) (pos k)) (eq-eqb (component_of desc j).plane plane by.there) (position_reads desc (component_of desc j) (pos k) i by.inside by.at)))
+    (and_from (nat_eq (component_of desc j).plane plane) (reads_bit desc (component_of desc j) (pos k))
+    (eq-eqb (component_of desc j).plane plane by.there) (position_reads desc (component_of desc j) (pos k) i by.inside by.at)))
 
 -- the step of the plane is that of the component
 step_by : (desc : Desc) (plane k j i : ℕ) → IsLaidOut desc → IsReadBy desc plane k j i → (component_of desc j).step ≡ plane_step desc plane
@@ -61,8 +65,10 @@ read_inside desc plane k j i laid by =
     omega (arith, position, inside, step_by desc plane k j i laid by)
 
 -- a bit of a component of a raw frame, where the component reads bit k of a pixel
-pub frame_bit_by : (desc : Desc) (width height : ℕ) (frame : List ℕ) (plane x y k j i : ℕ) → IsLaidOut desc → All (λ byte. byte < 256) frame → IsReadBy desc plane k j i
-    → bit_at (frame_component desc width height frame j x y) i ≡ bit_of frame (8 * (row_start desc width height plane y + x * plane_step desc plane) + k)
+pub frame_bit_by : (desc : Desc) (width height : ℕ) (frame : List ℕ) (plane x y k j i : ℕ) → IsLaidOut desc → All (λ byte. byte < 256) frame
+    → IsReadBy desc plane k j i
+    → bit_at (frame_component desc width height frame j x y) i
+    ≡ bit_of frame (8 * (row_start desc width height plane y + x * plane_step desc plane) + k)
 frame_bit_by desc width height frame plane x y k j i laid bytes by =
     frame_bit desc width height frame j x y i k laid bytes by.listed by.inside by.at
     ∙ ap (λ p. bit_of frame (8 * (row_start desc width height p y + x * (component_of desc j).step) + k)) by.there
@@ -72,7 +78,8 @@ frame_bit_by desc width height frame plane x y k j i laid bytes by =
 step_none : (plane : ℕ) (cs : List Comp) → ((i : ℕ) (d : Comp) → i < length cs → (get_or cs i d).plane ≢ plane) → step_in plane cs ≡ 0
 step_none plane [] none = refl
 step_none plane (c ∷ cs) none =
-    cond-false (nat_eq c.plane plane) c.step (step_in plane cs) (ne_eqb c.plane plane (none 0 c (omega arith))) ∙ step_none plane cs (λ i d below. none (suc i) d (omega arith))
+    cond-false (nat_eq c.plane plane) c.step (step_in plane cs) (ne_eqb c.plane plane (none 0 c (omega arith)))
+    ∙ step_none plane cs (λ i d below. none (suc i) d (omega arith))
 
 -- a plane that has bytes is one of the first four
 pub plane_below : (desc : Desc) (plane : ℕ) → IsLaidOut desc → 0 < plane_step desc plane → plane < 4

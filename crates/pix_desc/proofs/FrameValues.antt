@@ -10,7 +10,8 @@ abbrev comp : ℕ → ℕ → ℤ → ℕ → ℕ → Comp
 comp plane step offset shift depth = record { plane = plane; step = step; offset = offset; shift = shift; depth = depth }
 
 abbrev opaque : Comp → Comp → Comp → Bool → Bool → Desc
-opaque first second third be rgb = record { count = 3; comps = first ∷ second ∷ third ∷ no_component ∷ []; be = be; rgb = rgb; alpha = false; palette = false }
+opaque first second third be rgb =
+    record { count = 3; comps = first ∷ second ∷ third ∷ no_component ∷ []; be = be; rgb = rgb; alpha = false; palette = false }
 
 -- one value for each component, in a frame of one pixel
 abbrev values : List ℕ → ℕ → ℕ → ℕ → ℕ

@@ -18,19 +18,22 @@ use Rattle.pix_desc.proofs.Valid.{laid_out}
 
 -- a component reads the bits of its value
 is_read : (desc : Desc) (c : Comp) (x k i : ℕ) → first_byte desc c ≡ pos (count_of (first_byte desc c)) → i < c.depth
-    → IsBitAt (is_narrow c) desc.be (start_of desc c x) (c.shift + i) (k / 8) (k % 8) → reads_bit desc c (pos k -ℤ pos (8 * (x * c.step))) ≡ true
+    → IsBitAt (is_narrow c) desc.be (start_of desc c x) (c.shift + i) (k / 8) (k % 8)
+    → reads_bit desc c (pos k -ℤ pos (8 * (x * c.step))) ≡ true
 is_read desc c x k i first inside at =
     let byte : k / 8 ≡ x * c.step + count_of (first_byte desc c) + byte_of (is_narrow c) desc.be (c.shift + i) = at.byte in
     let sum : k ≡ 8 * (x * c.step) + position_of desc c (c.shift + i) = omega (arith, byte, at.bit) in
     position_reads desc c (pos k -ℤ pos (8 * (x * c.step))) i inside (omega (arith, ints, bit_position_is desc c i first, sum))
 
 -- a write that keeps the bytes round a component's number, and the number's other bits, keeps each bit that the component does not read
-pub kept_bit : (desc : Desc) (c : Comp) (x : ℕ) (old new : List ℕ) → first_byte desc c ≡ pos (count_of (first_byte desc c)) → c.shift + c.depth ≤ 16
+pub kept_bit : (desc : Desc) (c : Comp) (x : ℕ) (old new : List ℕ) → first_byte desc c ≡ pos (count_of (first_byte desc c))
+    → c.shift + c.depth ≤ 16
     → ((k : ℕ) → get_or old k 0 < 256) → ((k : ℕ) → get_or new k 0 < 256)
     → ((k : ℕ) → k < start_of desc c x → get_or new k 0 ≡ get_or old k 0)
     → ((k : ℕ) → start_of desc c x + bytes_read c ≤ k → get_or new k 0 ≡ get_or old k 0)
     → ((m : ℕ) → m < c.shift → bit_at (number_at desc c new (start_of desc c x)) m ≡ bit_at (number_at desc c old (start_of desc c x)) m)
-    → ((m : ℕ) → c.shift + c.depth ≤ m → bit_at (number_at desc c new (start_of desc c x)) m ≡ bit_at (number_at desc c old (start_of desc c x)) m)
+    → ((m : ℕ) → c.shift + c.depth ≤ m
+    → bit_at (number_at desc c new (start_of desc c x)) m ≡ bit_at (number_at desc c old (start_of desc c x)) m)
     → (k : ℕ) → reads_bit desc c (pos k -ℤ pos (8 * (x * c.step))) ≡ false → bit_of new k ≡ bit_of old k
 kept_bit desc c x old new first bits bytes_old bytes_new before behind below above k unread =
     let at = start_of desc c x in
@@ -51,7 +54,8 @@ kept_bit desc c x old new first bits bytes_old bytes_new before behind below abo
                 | inl inside ↦
                     let bit : m ≡ c.shift + (m - c.shift) = omega arith in
                     let stands = subst (λ n. IsBitAt (is_narrow c) desc.be at n (k / 8) (k % 8)) bit here.1 in
-                    absurd (both_ways (reads_bit desc c (pos k -ℤ pos (8 * (x * c.step)))) unread (is_read desc c x k (m - c.shift) first (omega arith) stands))
+                    absurd (both_ways (reads_bit desc c (pos k -ℤ pos (8 * (x * c.step)))) unread
+                    (is_read desc c x k (m - c.shift) first (omega arith) stands))
               ]
             ]
       ]
@@ -59,7 +63,8 @@ kept_bit desc c x old new first bits bytes_old bytes_new before behind below abo
 
 -- a component's bits lie in its pixel
 count_of-bit_position : (desc : Desc) (j i : ℕ) → IsValid desc → j < desc.count → i < (component_of desc j).depth
-    → (bit_position desc (component_of desc j) i ≡ pos (count_of (bit_position desc (component_of desc j) i))) × (count_of (bit_position desc (component_of desc j) i) < 8 * (component_of desc j).step)
+    → (bit_position desc (component_of desc j) i ≡ pos (count_of (bit_position desc (component_of desc j) i)))
+    × (count_of (bit_position desc (component_of desc j) i) < 8 * (component_of desc j).step)
 count_of-bit_position desc j i v listed below =
     let out = laid_out desc v in
     let c = component_of desc j in
@@ -68,8 +73,10 @@ count_of-bit_position desc j i v listed below =
     (position ∙ ap pos (sym count), omega (arith, count, position_inside desc c i (out.inside j listed) (out.bits j listed) below))
 
 -- bit i of component j is the bit of the row at its position
-pub bit_at-component : (desc : Desc) (j x i : ℕ) (row : List ℕ) → IsValid desc → j < desc.count → All (λ byte. byte < 256) row → i < (component_of desc j).depth
-    → bit_at (component desc j row x) i ≡ bit_of row (8 * (x * (component_of desc j).step) + count_of (bit_position desc (component_of desc j) i))
+pub bit_at-component : (desc : Desc) (j x i : ℕ) (row : List ℕ) → IsValid desc → j < desc.count → All (λ byte. byte < 256) row
+    → i < (component_of desc j).depth
+    → bit_at (component desc j row x) i
+    ≡ bit_of row (8 * (x * (component_of desc j).step) + count_of (bit_position desc (component_of desc j) i))
 bit_at-component desc j x i row v listed bytes below =
     let out = laid_out desc v in
     let c = component_of desc j in
@@ -77,8 +84,10 @@ bit_at-component desc j x i row v listed bytes below =
     ∙ ap (λ n. bit_of row (8 * (x * c.step) + n)) (sym (ap count_of (bit_position_is desc c i (out.first j listed))))
 
 -- two components of a plane, or two pixels, have no bit of a row in common
-unread : (desc : Desc) (i j x y b : ℕ) → IsValid desc → i < desc.count → j < desc.count → (component_of desc i).plane ≡ (component_of desc j).plane → (i ≢ j) ⊎ (x ≢ y)
-    → b < (component_of desc j).depth → reads_row_bit desc i x (8 * (y * (component_of desc j).step) + count_of (bit_position desc (component_of desc j) b)) ≡ false
+unread : (desc : Desc) (i j x y b : ℕ) → IsValid desc → i < desc.count → j < desc.count
+    → (component_of desc i).plane ≡ (component_of desc j).plane → (i ≢ j) ⊎ (x ≢ y)
+    → b < (component_of desc j).depth
+    → reads_row_bit desc i x (8 * (y * (component_of desc j).step) + count_of (bit_position desc (component_of desc j) b)) ≡ false
 unread desc i j x y b v listed_i listed_j plane apart below =
     let out = laid_out desc v in
     let c = component_of desc i in
@@ -105,11 +114,14 @@ unread desc i j x y b v listed_i listed_j plane apart below =
     ])
 
 -- so a write of one leaves the other as it is
-pub component-kept : (desc : Desc) (i j x y : ℕ) (old new : List ℕ) → IsValid desc → i < desc.count → j < desc.count → (component_of desc i).plane ≡ (component_of desc j).plane → (i ≢ j) ⊎ (x ≢ y)
-    → All (λ byte. byte < 256) old → All (λ byte. byte < 256) new → KeepsOtherBits desc i x old new → component desc j new y ≡ component desc j old y
+pub component-kept : (desc : Desc) (i j x y : ℕ) (old new : List ℕ) → IsValid desc → i < desc.count → j < desc.count
+    → (component_of desc i).plane ≡ (component_of desc j).plane → (i ≢ j) ⊎ (x ≢ y)
+    → All (λ byte. byte < 256) old → All (λ byte. byte < 256) new → KeepsOtherBits desc i x old new
+    → component desc j new y ≡ component desc j old y
 component-kept desc i j x y old new v listed_i listed_j plane apart bytes_old bytes_new kept =
     let d = component_of desc j in
-    same_from_bits_below d.depth (component desc j new y) (component desc j old y) (mod-lt _ (pow_pos d.depth)) (mod-lt _ (pow_pos d.depth)) (λ b below.
+    same_from_bits_below d.depth (component desc j new y) (component desc j old y) (mod-lt _ (pow_pos d.depth)) (mod-lt _ (pow_pos d.depth))
+    (λ b below.
     let k = 8 * (y * d.step) + count_of (bit_position desc d b) in
     bit_at-component desc j y b new v listed_j bytes_new below
     ∙ kept.bits k (unread desc i j x y b v listed_i listed_j plane apart below)

@@ -35,11 +35,13 @@ replaced_by_or n s d v fits value =
     ap (λ ones. bit_or (bit_and n (65535 - ones)) (v * 2 ^ s % 65536)) (ones_from s d fits)
     ∙ ap (λ put. bit_or (bit_and n (65535 - (2 ^ (s + d) - 2 ^ s))) put) (shl_whole v d s 16 value (omega arith))
 
-replaced_bit : (n s d v i : ℕ) → s + d ≤ 16 → i < 16 → bit_at (replaced n s d v) i ≡ max (min (bit_at n i) (1 - bit_at (2 ^ (s + d) - 2 ^ s) i)) (bit_at (v * 2 ^ s) i)
+replaced_bit : (n s d v i : ℕ) → s + d ≤ 16 → i < 16
+    → bit_at (replaced n s d v) i ≡ max (min (bit_at n i) (1 - bit_at (2 ^ (s + d) - 2 ^ s) i)) (bit_at (v * 2 ^ s) i)
 replaced_bit n s d v i fits below =
     let ones = 2 ^ (s + d) - 2 ^ s in
     bit_at_or (bit_and n (2 ^ 16 - 1 - ones)) (v * 2 ^ s) i
-    ∙ ap (λ b. max b (bit_at (v * 2 ^ s) i)) (bit_at_and n (2 ^ 16 - 1 - ones) i ∙ ap (λ b. min (bit_at n i) b) (bit_at_not w16 ones i (top_of s d fits) below))
+    ∙ ap (λ b. max b (bit_at (v * 2 ^ s) i)) (bit_at_and n (2 ^ 16 - 1 - ones) i
+    ∙ ap (λ b. min (bit_at n i) b) (bit_at_not w16 ones i (top_of s d fits) below))
 
 pub replaced_small : (n s d v w : ℕ) → s + d ≤ w → n < 2 ^ w → v < 2 ^ d → replaced n s d v < 2 ^ w
 replaced_small n s d v w fits number value =
@@ -54,7 +56,9 @@ pub replaced_below : (n s d v i : ℕ) → s + d ≤ 16 → i < s → bit_at (re
 replaced_below n s d v i fits below =
     let none = bit_at_mask_below s (s + d) i below in
     let clear = bit_at_shifted_below v s i below in
-    replaced_bit n s d v i fits (omega arith) ∙ (let e : max (min (bit_at n i) (1 - bit_at (2 ^ (s + d) - 2 ^ s) i)) (bit_at (v * 2 ^ s) i) ≡ bit_at n i = omega (arith, none, clear, bit_at-lt n i) in e)
+    replaced_bit n s d v i fits (omega arith)
+    ∙ (let e : max (min (bit_at n i) (1 - bit_at (2 ^ (s + d) - 2 ^ s) i)) (bit_at (v * 2 ^ s) i) ≡ bit_at n i =
+    omega (arith, none, clear, bit_at-lt n i) in e)
 
 pub replaced_above : (n s d v i : ℕ) → s + d ≤ 16 → n < 2 ^ 16 → v < 2 ^ d → s + d ≤ i → bit_at (replaced n s d v) i ≡ bit_at n i
 replaced_above n s d v i fits number value above =
@@ -62,8 +66,11 @@ replaced_above n s d v i fits number value above =
       | inl below ↦
           let none = bit_at_mask_above s (s + d) i above in
           let clear = bit_at_shifted_above v s d i value above in
-          replaced_bit n s d v i fits below ∙ (let e : max (min (bit_at n i) (1 - bit_at (2 ^ (s + d) - 2 ^ s) i)) (bit_at (v * 2 ^ s) i) ≡ bit_at n i = omega (arith, none, clear, bit_at-lt n i) in e)
-      | inr past ↦ bit_at_above (replaced n s d v) 16 i (replaced_small n s d v 16 fits number value) past ∙ sym (bit_at_above n 16 i number past)
+          replaced_bit n s d v i fits below
+          ∙ (let e : max (min (bit_at n i) (1 - bit_at (2 ^ (s + d) - 2 ^ s) i)) (bit_at (v * 2 ^ s) i) ≡ bit_at n i =
+          omega (arith, none, clear, bit_at-lt n i) in e)
+      | inr past ↦ bit_at_above (replaced n s d v) 16 i (replaced_small n s d v 16 fits number value) past
+          ∙ sym (bit_at_above n 16 i number past)
     ]
 
 -- and the d bits are v's
@@ -73,4 +80,5 @@ replaced_value n s d v fits value =
     let all = bit_at_mask_inside s (s + d) (s + i) (omega arith) (omega arith) in
     let put = bit_at_shifted v s i in
     bit_at_field (replaced n s d v) s d i below ∙ replaced_bit n s d v (s + i) fits (omega arith)
-    ∙ (let e : max (min (bit_at n (s + i)) (1 - bit_at (2 ^ (s + d) - 2 ^ s) (s + i))) (bit_at (v * 2 ^ s) (s + i)) ≡ bit_at v i = omega (arith, all, put, bit_at-lt n (s + i)) in e))
+    ∙ (let e : max (min (bit_at n (s + i)) (1 - bit_at (2 ^ (s + d) - 2 ^ s) (s + i))) (bit_at (v * 2 ^ s) (s + i)) ≡ bit_at v i =
+    omega (arith, all, put, bit_at-lt n (s + i)) in e))

@@ -63,18 +63,24 @@ depth_bounds : (c : Comp) → is_depth c ≡ true → (0 < c.depth) × (c.shift 
 depth_bounds c h = grind (arith, nat_tests)
 
 -- what the test of a component's first byte says
-offset_bounds : (f : ℤ) (w step : ℕ) → (nat_le 1 step && nat_le step 8 && le_z (pos 0) f && le_z (f +ℤ pos w) (pos step)) ≡ true → (step ≤ 8) × (f ≡ pos (count_of f)) × (count_of f + w ≤ step)
+offset_bounds : (f : ℤ) (w step : ℕ) → (nat_le 1 step && nat_le step 8 && le_z (pos 0) f && le_z (f +ℤ pos w) (pos step)) ≡ true
+    → (step ≤ 8) × (f ≡ pos (count_of f)) × (count_of f + w ≤ step)
 offset_bounds (pos n) w step h = (grind (arith, nat_tests), refl, grind (arith, nat_tests))
-offset_bounds (negsuc n) w step h = absurd (false≢true (and_parts (nat_le 1 step && nat_le step 8) false (and_parts (nat_le 1 step && nat_le step 8 && false) (le_z (negsuc n +ℤ pos w) (pos step)) h).0).1)
+offset_bounds (negsuc n) w step h =
+    absurd (false≢true (and_parts (nat_le 1 step && nat_le step 8) false
+    (and_parts (nat_le 1 step && nat_le step 8 && false) (le_z (negsuc n +ℤ pos w) (pos step)) h).0).1)
 
 -- five different numbers are not all below four
-distinct_below : (a b c d e : ℕ) → a < 4 → b < 4 → c < 4 → d < 4 → e < 4 → a ≢ b → a ≢ c → a ≢ d → a ≢ e → b ≢ c → b ≢ d → b ≢ e → c ≢ d → c ≢ e → d ≢ e → ⊥
+distinct_below : (a b c d e : ℕ) → a < 4 → b < 4 → c < 4 → d < 4 → e < 4 → a ≢ b → a ≢ c → a ≢ d → a ≢ e → b ≢ c → b ≢ d → b ≢ e → c ≢ d
+    → c ≢ e → d ≢ e → ⊥
 distinct_below a b c d e in_a in_b in_c in_d in_e ab ac ad ae bc bd be cd ce de = omega arith
 
 -- a component lies in each plane below a plane that is used
-pub plane_used : (desc : Desc) (j p : ℕ) → has_all_planes desc ≡ true → j < desc.count → p < (component_of desc j).plane → (i : ℕ) × (i < desc.count) × ((component_of desc i).plane ≡ p)
+pub plane_used : (desc : Desc) (j p : ℕ) → has_all_planes desc ≡ true → j < desc.count → p < (component_of desc j).plane
+    → (i : ℕ) × (i < desc.count) × ((component_of desc i).plane ≡ p)
 plane_used desc j p all listed below =
-    let each = list_all-map_true (component_of desc) (λ c. list_all (λ q. some_component desc (λ d. nat_eq d.plane q)) (range_with_len 0 c.plane)) desc.count j all listed in
+    let each = list_all-map_true (component_of desc)
+    (λ c. list_all (λ q. some_component desc (λ d. nat_eq d.plane q)) (range_with_len 0 c.plane)) desc.count j all listed in
     let one = list_all-below_true (λ q. some_component desc (λ d. nat_eq d.plane q)) (component_of desc j).plane p each below in
     let at = some_component-at desc (λ d. nat_eq d.plane p) one in
     (at.0, at.1, eqb-true (component_of desc at.0).plane p at.2)
@@ -91,29 +97,36 @@ plane_below desc j all most listed =
           let c = plane_used desc j 2 all listed (omega arith) in
           let d = plane_used desc j 3 all listed (omega arith) in
           let differ = λ (p q : ℕ) (unlike : plane_of p ≢ plane_of q) (same : p ≡ q). unlike (ap plane_of same) in
-          absurd (distinct_below a.0 b.0 c.0 d.0 j (omega (arith, a.1)) (omega (arith, b.1)) (omega (arith, c.1)) (omega (arith, d.1)) (omega arith)
-          (differ a.0 b.0 (omega (arith, a.2, b.2))) (differ a.0 c.0 (omega (arith, a.2, c.2))) (differ a.0 d.0 (omega (arith, a.2, d.2))) (differ a.0 j (omega (arith, a.2)))
+          absurd (distinct_below a.0 b.0 c.0 d.0 j (omega (arith, a.1)) (omega (arith, b.1)) (omega (arith, c.1)) (omega (arith, d.1))
+          (omega arith)
+          (differ a.0 b.0 (omega (arith, a.2, b.2))) (differ a.0 c.0 (omega (arith, a.2, c.2))) (differ a.0 d.0 (omega (arith, a.2, d.2)))
+          (differ a.0 j (omega (arith, a.2)))
           (differ b.0 c.0 (omega (arith, b.2, c.2))) (differ b.0 d.0 (omega (arith, b.2, d.2))) (differ b.0 j (omega (arith, b.2)))
           (differ c.0 d.0 (omega (arith, c.2, d.2))) (differ c.0 j (omega (arith, c.2)))
           (differ d.0 j (omega (arith, d.2))))
     ]
 
 -- two components that do not overlap read no common bit
-unlike_bits : (desc : Desc) (a b : Comp) (i k : ℕ) → overlap desc a b ≡ false → a.plane ≡ b.plane → i < a.depth → k < b.depth → bit_position desc a i ≢ bit_position desc b k
+unlike_bits : (desc : Desc) (a b : Comp) (i k : ℕ) → overlap desc a b ≡ false → a.plane ≡ b.plane → i < a.depth → k < b.depth
+    → bit_position desc a i ≢ bit_position desc b k
 unlike_bits desc a b i k apart plane in_a in_b same =
-    let tests = and_cases (nat_eq a.plane b.plane) (list_any (λ m. reads_bit desc b (bit_position desc a m)) (range_with_len 0 a.depth)) apart in
+    let tests = and_cases (nat_eq a.plane b.plane)
+    (list_any (λ m. reads_bit desc b (bit_position desc a m)) (range_with_len 0 a.depth)) apart in
     elim tests as (λ _. ⊥) [
       | inl other ↦ both_ways (nat_eq a.plane b.plane) other (eq-eqb a.plane b.plane plane)
       | inr none ↦
           let unread = list_any-below_false (λ m. reads_bit desc b (bit_position desc a m)) a.depth i none in_a in
           let unlike = list_any-below_false (λ m. int_eq (bit_position desc b m) (bit_position desc a i)) b.depth k unread in_b in
-          both_ways (int_eq (bit_position desc b k) (bit_position desc a i)) unlike ((Decides-int_eq (bit_position desc b k) (bit_position desc a i)).1 (sym same))
+          both_ways (int_eq (bit_position desc b k) (bit_position desc a i)) unlike
+          ((Decides-int_eq (bit_position desc b k) (bit_position desc a i)).1 (sym same))
     ]
 
 -- the components of a plane have its step
-step_at : (desc : Desc) (j : ℕ) → is_mixed desc ≡ false → j < desc.count → plane_step desc (component_of desc j).plane ≡ (component_of desc j).step
+step_at : (desc : Desc) (j : ℕ) → is_mixed desc ≡ false → j < desc.count
+    → plane_step desc (component_of desc j).plane ≡ (component_of desc j).step
 step_at desc j unmixed listed =
-    let outer = or_parts (some_pair desc differ_in_step || not (is_elements desc || is_word desc)) (desc.palette && not (is_index desc)) unmixed in
+    let outer = or_parts (some_pair desc differ_in_step || not (is_elements desc || is_word desc))
+    (desc.palette && not (is_index desc)) unmixed in
     let inner = or_parts (some_pair desc differ_in_step) (not (is_elements desc || is_word desc)) outer.0 in
     let steps = step_in-plane (components desc) j no_component inner.0 (omega (arith, length-components desc)) in
     rw (get_or-components desc j no_component listed) at steps
@@ -122,8 +135,13 @@ pub laid_out : (desc : Desc) → IsValid desc → IsLaidOut desc
 laid_out desc v =
     let passed = has_no_fault desc v in
     let count = count_bounds desc.palette desc.rgb desc.alpha desc.count passed.counted in
-    let depth_at = λ (j : ℕ) (listed : j < desc.count). depth_bounds (component_of desc j) (not-false (is_depth (component_of desc j)) (some_component-false desc (λ c. not (is_depth c)) j passed.deep listed)) in
-    let bounds_at = λ (j : ℕ) (listed : j < desc.count). offset_bounds (first_byte desc (component_of desc j)) (bytes_read (component_of desc j)) (component_of desc j).step (not-false (is_inside desc (component_of desc j)) (some_component-false desc (λ c. not (is_inside desc c)) j passed.inside listed)) in
+    let depth_at = λ (j : ℕ) (listed : j < desc.count).
+    depth_bounds (component_of desc j)
+    (not-false (is_depth (component_of desc j)) (some_component-false desc (λ c. not (is_depth c)) j passed.deep listed)) in
+    let bounds_at = λ (j : ℕ) (listed : j < desc.count).
+    offset_bounds (first_byte desc (component_of desc j)) (bytes_read (component_of desc j)) (component_of desc j).step
+    (not-false (is_inside desc (component_of desc j))
+    (some_component-false desc (λ c. not (is_inside desc c)) j passed.inside listed)) in
     record {
       some = count.0;
       most = count.1;
@@ -137,8 +155,10 @@ laid_out desc v =
       apart = λ i j a b first second differ plane in_a in_b.
           elim (cases_order i j) as (λ _. bit_position desc (component_of desc i) a ≢ bit_position desc (component_of desc j) b) [
             | inl same ↦ absurd (differ same)
-            | inr (inl before) ↦ unlike_bits desc (component_of desc i) (component_of desc j) a b (some_pair-false desc (overlap desc) i j passed.apart before second) plane in_a in_b
-            | inr (inr behind) ↦ λ e. unlike_bits desc (component_of desc j) (component_of desc i) b a (some_pair-false desc (overlap desc) j i passed.apart behind first) (sym plane) in_b in_a (sym e)
+            | inr (inl before) ↦ unlike_bits desc (component_of desc i) (component_of desc j) a b
+                (some_pair-false desc (overlap desc) i j passed.apart before second) plane in_a in_b
+            | inr (inr behind) ↦ λ e. unlike_bits desc (component_of desc j) (component_of desc i) b a
+                (some_pair-false desc (overlap desc) j i passed.apart behind first) (sym plane) in_b in_a (sym e)
           ];
     }
 

@@ -1,4 +1,5 @@
--- Raw frames: the planes in order, each with its rows from the top and no padding; behind them, for a palette format, 256 entries of 4 bytes.
+-- Raw frames: the planes in order, each with its rows from the top and no padding; behind them, for a palette format, 256 entries of 4
+-- bytes.
 use Rattle.std.specs.Prelude.{◌≡◌, ℕ, zero, suc, ◌+◌, ◌*◌, ◌/◌, ◌%◌, ◌^◌, ◌<◌, pos, Bool, false, ◌&&◌, if◌then◌else◌, nat_eq, List, [], ◌∷◌, ◌++◌, map, drop, length, sum_by, All}
 use Rattle.std.specs.List.{range_with_len, list_any}
 use Rattle.pix_desc.specs.declared.desc.Comp.{Comp}
@@ -61,7 +62,8 @@ part desc c v k =
 -- byte k of a pixel in a plane is the sum of what the plane's components put into it
 abbrev pub pixel_byte : Desc → ℕ → (ℕ → ℕ) → ℕ → ℕ
 pixel_byte desc plane values k =
-    sum_by (λ j. if nat_eq (component_of desc j).plane plane then part desc (component_of desc j) (values j) k else 0) (range_with_len 0 desc.count)
+    sum_by (λ j. if nat_eq (component_of desc j).plane plane then part desc (component_of desc j) (values j) k else 0)
+    (range_with_len 0 desc.count)
 
 -- byte k of a plane
 abbrev pub plane_byte : Desc → ℕ → (ℕ → ℕ → ℕ → ℕ) → ℕ → ℕ → ℕ
@@ -74,7 +76,8 @@ plane_byte desc width value plane k =
 abbrev pub planes_of : Desc → ℕ → ℕ → (ℕ → ℕ → ℕ → ℕ) → ℕ → List ℕ
 planes_of desc width height value zero = []
 planes_of desc width height value (suc plane) =
-    planes_of desc width height value plane ++ map (plane_byte desc width value plane) (range_with_len 0 (plane_length desc width height plane))
+    planes_of desc width height value plane ++ map (plane_byte desc width value plane)
+    (range_with_len 0 (plane_length desc width height plane))
 
 -- the raw frame of these values, for a format without a palette
 unfoldable pub frame_of : Desc → ℕ → ℕ → (ℕ → ℕ → ℕ → ℕ) → List ℕ

@@ -45,7 +45,8 @@ overlap desc a b = nat_eq a.plane b.plane && share_bit desc a b
 
 -- what is read lies in the pixel, which has 1 to 8 bytes
 abbrev pub is_inside : Desc → Comp → Bool
-is_inside desc c = nat_le 1 c.step && nat_le c.step 8 && le_z (pos 0) (first_byte desc c) && le_z (first_byte desc c +ℤ pos (bytes_read c)) (pos c.step)
+is_inside desc c = nat_le 1 c.step && nat_le c.step 8 && le_z (pos 0) (first_byte desc c) && le_z (first_byte desc c +ℤ pos (bytes_read c))
+    (pos c.step)
 
 abbrev pub differ_in_step : Comp → Comp → Bool
 differ_in_step a b = nat_eq a.plane b.plane && not (nat_eq a.step b.step)
@@ -69,7 +70,8 @@ element_count cs = sum_by (λ c. c.step / bytes_read c) (one_a_plane cs)
 
 -- Elements: a pixel is up to four numbers of equal size, and each holds one component, all at the same bits
 abbrev pub is_elements : Desc → Bool
-is_elements desc = not (some_pair desc differ_in_shape) && list_all (is_aligned desc) (components desc) && nat_le (element_count (components desc)) 4
+is_elements desc = not (some_pair desc differ_in_shape) && list_all (is_aligned desc) (components desc) && nat_le
+    (element_count (components desc)) 4
 
 -- the lowest bit of a component in its pixel, taken as one number in the format's byte order
 abbrev pub word_shift : Desc → Comp → ℕ
@@ -114,7 +116,8 @@ is_mixed desc = some_pair desc differ_in_step || not (is_elements desc || is_wor
 
 -- below each plane used every plane is used
 abbrev pub has_all_planes : Desc → Bool
-has_all_planes desc = list_all (λ c. list_all (λ p. some_component desc (λ d. nat_eq d.plane p)) (range_with_len 0 c.plane)) (components desc)
+has_all_planes desc = list_all (λ c. list_all (λ p. some_component desc (λ d. nat_eq d.plane p)) (range_with_len 0 c.plane))
+    (components desc)
 
 -- the layout of an accepted descriptor, or the first fault
 unfoldable pub checked : Desc → Result Layout DescFault
@@ -141,6 +144,8 @@ pub record IsLaidOut (desc : Desc) : Type 0 where
   pub step : (j : ℕ) → j < desc.count → plane_step desc (component_of desc j).plane ≡ (component_of desc j).step
   pub small : (j : ℕ) → j < desc.count → (component_of desc j).step ≤ 8
   pub first : (j : ℕ) → j < desc.count → first_byte desc (component_of desc j) ≡ pos (count_of (first_byte desc (component_of desc j)))
-  pub inside : (j : ℕ) → j < desc.count → count_of (first_byte desc (component_of desc j)) + bytes_read (component_of desc j) ≤ (component_of desc j).step
+  pub inside : (j : ℕ) → j < desc.count
+      → count_of (first_byte desc (component_of desc j)) + bytes_read (component_of desc j) ≤ (component_of desc j).step
   pub apart : (i j a b : ℕ) → i < desc.count → j < desc.count → i ≢ j → (component_of desc i).plane ≡ (component_of desc j).plane
-      → a < (component_of desc i).depth → b < (component_of desc j).depth → bit_position desc (component_of desc i) a ≢ bit_position desc (component_of desc j) b
+      → a < (component_of desc i).depth → b < (component_of desc j).depth
+      → bit_position desc (component_of desc i) a ≢ bit_position desc (component_of desc j) b

@@ -43,7 +43,8 @@ pub fn check(desc: &Desc) -> Result<Layout, DescFault>
 
 /// Whether the flags allow the number of components.
 fn has_count(desc: &Desc) -> bool
-    ensures allowed { result ≡ is_count desc.now.palette desc.now.rgb desc.now.alpha desc.now.count }
+    ensures allowed { result
+        ≡ is_count desc.now.palette desc.now.rgb desc.now.alpha desc.now.count }
     ensures most { IsTrue result → desc.now.count ≤ 4 }
 {
     match (desc.palette, desc.rgb, desc.alpha) {
@@ -117,7 +118,8 @@ fn differ_in_step(a: &Comp, b: &Comp) -> bool
     a.plane == b.plane && a.step != b.step
 }
 
-/// Whether one of the components lies in the plane of another component and differs from it in step.
+/// Whether one of the components lies in the plane of another component and differs from it in
+/// step.
 fn some_differ_in_step(comps: &[Comp], from: &Comp) -> bool
     ensures { result ≡ list_any (differ_in_step from.now) comps.now }
 {
@@ -153,7 +155,8 @@ fn is_index(desc: &Desc) -> bool
     !desc.be && has_bytes_alone(components(desc))
 }
 
-/// Whether the steps of a plane differ, or no layout fits, or a palette format has another index than one byte.
+/// Whether the steps of a plane differ, or no layout fits, or a palette format has another index
+/// than one byte.
 fn is_mixed(desc: &Desc) -> bool
     requires { desc.now.count ≤ 4 }
     ensures { result ≡ is_mixed desc.now }
@@ -166,7 +169,8 @@ fn is_mixed(desc: &Desc) -> bool
 /// Whether a component lies in each plane below one.
 fn has_planes_below(desc: &Desc, plane: u8) -> bool
     requires { desc.now.count ≤ 4 }
-    ensures { result ≡ list_all (λ p. some_component desc.now (λ c. nat_eq c.plane p)) (range_with_len 0 plane) }
+    ensures { result ≡ list_all (λ p. some_component desc.now (λ c. nat_eq c.plane p))
+        (range_with_len 0 plane) }
 {
     (0..plane).all(|below| is_used(components(desc), below))
 }

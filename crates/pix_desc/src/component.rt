@@ -36,7 +36,8 @@ fn set_number_at(desc: &Desc, comp: &Comp, row: &mut [u8], at: usize, number: u1
     requires fits { IsTrue (is_narrow comp.now) → number < 2 ^ 8 }
     ensures reads { number_at desc.now comp.now row.new at ≡ number }
     ensures before { (k : ℕ) → k < at → slice_index row.new k ≡ slice_index row.old k }
-    ensures behind { (k : ℕ) → at + bytes_read comp.now ≤ k → slice_index row.new k ≡ slice_index row.old k }
+    ensures behind { (k : ℕ) → at + bytes_read comp.now ≤ k
+        → slice_index row.new k ≡ slice_index row.old k }
 {
     if is_narrow(comp) {
         row[at] = number as u8;

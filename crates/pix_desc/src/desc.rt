@@ -7,7 +7,8 @@ pub struct Comp {
     pub plane: u8,
     /// The bytes from one pixel of the plane to the next, 1 to 8.
     pub step: u8,
-    /// The bytes before it in the pixel; -1 where a big-endian number of 16 bits is read by its high byte alone.
+    /// The bytes before it in the pixel; -1 where a big-endian number of 16 bits is read by its
+    /// high byte alone.
     pub offset: i8,
     /// The bits below it in the number that is read.
     pub shift: u8,
@@ -15,7 +16,8 @@ pub struct Comp {
     pub depth: u8,
 }
 
-/// A pixel format, after FFmpeg's AVPixFmtDescriptor. Components stand in the order R, G, B for RGB formats and
+/// A pixel format, after FFmpeg's AVPixFmtDescriptor. Components stand in the order R, G, B for RGB
+/// formats and
 /// Y, U, V otherwise, with alpha last. The entries of `comps` from `count` on are ignored.
 #[derive(Clone, Copy, Debug, PartialEq, Eq)]
 pub struct Desc {
@@ -50,7 +52,8 @@ pub enum DescFault {
     Overlap,
     /// A step is not 1 to 8, or a component reads outside its pixel.
     OutsideStep,
-    /// Two components of one plane differ in step, no layout fits, or a palette format has another index than one byte.
+    /// Two components of one plane differ in step, no layout fits, or a palette format has another
+    /// index than one byte.
     MixedLayout,
     /// The planes used are not exactly those from 0 up to some number.
     PlaneCount,

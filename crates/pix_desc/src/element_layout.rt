@@ -58,7 +58,8 @@ fn element_count(comps: &[Comp]) -> u16
     count
 }
 
-/// Whether a pixel is up to four numbers of equal size that hold one component each, all at the same bits.
+/// Whether a pixel is up to four numbers of equal size that hold one component each, all at the
+/// same bits.
 pub fn is_elements(desc: &Desc) -> bool
     requires { desc.now.count ≤ 4 }
     ensures { result ≡ is_elements desc.now }

@@ -1,6 +1,7 @@
 //! Descriptors of pixel formats, the components of a row, and raw frames.
 //!
-//! A descriptor is read as FFmpeg's libavutil/pixdesc.h says of AVPixFmtDescriptor and AVComponentDescriptor.
+//! A descriptor is read as FFmpeg's libavutil/pixdesc.h says of AVPixFmtDescriptor and
+//! AVComponentDescriptor.
 #![tactic(auto)]
 
 mod checks;

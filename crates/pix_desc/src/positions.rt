@@ -54,7 +54,8 @@ pub fn first_byte_index(desc: &Desc, comp: &Comp) -> u16
     first_byte(desc, comp).max(0) as u16
 }
 
-/// The byte of a component's number that has a bit of it, in the order in which they stand in the pixel.
+/// The byte of a component's number that has a bit of it, in the order in which they stand in the
+/// pixel.
 fn byte_with(desc: &Desc, comp: &Comp, bit: u16) -> u16
     ensures { result ≡ (if desc.now.be && not (is_narrow comp.now) then 1 - bit / 8 else bit / 8) }
 {
@@ -66,7 +67,8 @@ fn byte_with(desc: &Desc, comp: &Comp, bit: u16) -> u16
     }
 }
 
-/// The bit of the pixel that is bit `i` of the component's value, counted from the lowest bit of the pixel's first byte.
+/// The bit of the pixel that is bit `i` of the component's value, counted from the lowest bit of
+/// the pixel's first byte.
 pub fn bit_position(desc: &Desc, comp: &Comp, i: u8) -> i32
     ensures { result ≡ bit_position desc.now comp.now i }
 {

@@ -11,10 +11,12 @@ use Rattle.pix_meaning.specs.Laws.{HasChannels}
 
 -- the law at a component and at a channel, as tests
 abbrev component_agrees : Desc → ℕ → Bool
-component_agrees desc j = not (nat_lt j (component_count desc)) || (has_channel desc (channel_of desc j) && nat_eq (component_at desc (channel_of desc j)) j)
+component_agrees desc j = not (nat_lt j (component_count desc)) ||
+    (has_channel desc (channel_of desc j) && nat_eq (component_at desc (channel_of desc j)) j)
 
 abbrev channel_agrees : Desc → ℕ → Bool
-channel_agrees desc c = not (has_channel desc c) || (nat_lt (component_at desc c) (component_count desc) && nat_eq (channel_of desc (component_at desc c)) c)
+channel_agrees desc c = not (has_channel desc c) ||
+    (nat_lt (component_at desc c) (component_count desc) && nat_eq (channel_of desc (component_at desc c)) c)
 
 abbrev all_four : (ℕ → Bool) → Bool
 all_four p = p 0 && p 1 && p 2 && p 3
@@ -40,20 +42,26 @@ abbrev shaped : List Comp → Bool → Bool → Bool → Bool → ℕ → Desc
 shaped comps be rgb alpha palette count = record { count = count; comps = comps; be = be; rgb = rgb; alpha = alpha; palette = palette }
 
 -- by the flags and the number of components
-agrees_by_flags : (comps : List Comp) (be rgb alpha palette : Bool) (count : ℕ) → is_count palette rgb alpha count ≡ true → agrees (shaped comps be rgb alpha palette count) ≡ true
+agrees_by_flags : (comps : List Comp) (be rgb alpha palette : Bool) (count : ℕ) → is_count palette rgb alpha count ≡ true
+    → agrees (shaped comps be rgb alpha palette count) ≡ true
 agrees_by_flags comps be true alpha true count h = absurd (false≢true h)
 agrees_by_flags comps be false false true count h = absurd (false≢true h)
-agrees_by_flags comps be false true true count h = subst (λ n. agrees (shaped comps be false true true n) ≡ true) (sym (eqb-true count 1 h)) refl
-agrees_by_flags comps be true false false count h = subst (λ n. agrees (shaped comps be true false false n) ≡ true) (sym (eqb-true count 3 h)) refl
-agrees_by_flags comps be true true false count h = subst (λ n. agrees (shaped comps be true true false n) ≡ true) (sym (eqb-true count 4 h)) refl
-agrees_by_flags comps be false false false count h = elim (or_cases (nat_eq count 1) (nat_eq count 3) h) as (λ _. agrees (shaped comps be false false false count) ≡ true) [
-  | inl one ↦ subst (λ n. agrees (shaped comps be false false false n) ≡ true) (sym (eqb-true count 1 one)) refl
-  | inr three ↦ subst (λ n. agrees (shaped comps be false false false n) ≡ true) (sym (eqb-true count 3 three)) refl
-]
-agrees_by_flags comps be false true false count h = elim (or_cases (nat_eq count 2) (nat_eq count 4) h) as (λ _. agrees (shaped comps be false true false count) ≡ true) [
-  | inl two ↦ subst (λ n. agrees (shaped comps be false true false n) ≡ true) (sym (eqb-true count 2 two)) refl
-  | inr four ↦ subst (λ n. agrees (shaped comps be false true false n) ≡ true) (sym (eqb-true count 4 four)) refl
-]
+agrees_by_flags comps be false true true count h =
+    subst (λ n. agrees (shaped comps be false true true n) ≡ true) (sym (eqb-true count 1 h)) refl
+agrees_by_flags comps be true false false count h =
+    subst (λ n. agrees (shaped comps be true false false n) ≡ true) (sym (eqb-true count 3 h)) refl
+agrees_by_flags comps be true true false count h =
+    subst (λ n. agrees (shaped comps be true true false n) ≡ true) (sym (eqb-true count 4 h)) refl
+agrees_by_flags comps be false false false count h =
+    elim (or_cases (nat_eq count 1) (nat_eq count 3) h) as (λ _. agrees (shaped comps be false false false count) ≡ true) [
+      | inl one ↦ subst (λ n. agrees (shaped comps be false false false n) ≡ true) (sym (eqb-true count 1 one)) refl
+      | inr three ↦ subst (λ n. agrees (shaped comps be false false false n) ≡ true) (sym (eqb-true count 3 three)) refl
+    ]
+agrees_by_flags comps be false true false count h =
+    elim (or_cases (nat_eq count 2) (nat_eq count 4) h) as (λ _. agrees (shaped comps be false true false count) ≡ true) [
+      | inl two ↦ subst (λ n. agrees (shaped comps be false true false n) ≡ true) (sym (eqb-true count 2 two)) refl
+      | inr four ↦ subst (λ n. agrees (shaped comps be false true false n) ≡ true) (sym (eqb-true count 4 four)) refl
+    ]
 
 implied : (a b : Bool) → (not a || b) ≡ true → a ≡ true → b ≡ true
 implied true b h e = h
@@ -70,7 +78,8 @@ has_channels desc valid =
     let most = component_count_most desc valid in
     let of_component = λ (j : ℕ) (listed : j < component_count desc).
     and_parts (has_channel desc (channel_of desc j)) (nat_eq (component_at desc (channel_of desc j)) j)
-    (implied (nat_lt j (component_count desc)) _ (from_all_four (component_agrees desc) all.0 j (omega arith)) (lt-ltb j (component_count desc) listed)) in
+    (implied (nat_lt j (component_count desc)) _ (from_all_four (component_agrees desc) all.0 j (omega arith))
+    (lt-ltb j (component_count desc) listed)) in
     let of_channel = λ (c : ℕ) (below : c < 4) (there : has_channel desc c ≡ true).
     and_parts (nat_lt (component_at desc c) (component_count desc)) (nat_eq (channel_of desc (component_at desc c)) c)
     (implied (has_channel desc c) _ (from_all_four (channel_agrees desc) all.1 c below) there) in

@@ -11,7 +11,8 @@ use Rattle.pix_meaning.specs.Target.{clamped, result_of, target_rows}
 use Rattle.pix_meaning.specs.Examples.{WorkedConversions}
 
 pub worked_conversions : WorkedConversions
-unfolding gcd over ratio ◌+ℚ◌ ◌*ℚ◌ neg_ℚ inverse floor dither_at frame_of frame_component row_start levels scaled_to from_code to_code to_rgb from_rgb source_component source_value source_values rgb_values target_values wanted clamped result_of target_rows
+unfolding gcd over ratio ◌+ℚ◌ ◌*ℚ◌ neg_ℚ inverse floor dither_at frame_of frame_component row_start levels scaled_to from_code to_code
+    to_rgb from_rgb source_component source_value source_values rgb_values target_values wanted clamped result_of target_rows
 worked_conversions = record {
   rounded_up = refl;
   rounded_down = refl;

@@ -29,7 +29,8 @@ passes_rgb from to v p q = rw (p, q) refl
 
 -- the value of a channel that is there
 pub value_there : (side : Side) (width height : ℕ) (frame : List ℕ) (x y c : ℕ) → has_channel side.desc c ≡ true
-    → source_value side width height frame x y c ≡ from_code (levels_of side c) (nat (source_component side.desc width height frame (component_at side.desc c) x y))
+    → source_value side width height frame x y c
+    ≡ from_code (levels_of side c) (nat (source_component side.desc width height frame (component_at side.desc c) x y))
 unfolding source_value
 value_there side width height frame x y c there = rw there refl
 
@@ -43,7 +44,8 @@ value_at_channel side width height frame x y (suc (suc (suc zero))) below = refl
 value_at_channel side width height frame x y (suc (suc (suc (suc c)))) below = absurd (omega arith)
 
 -- where the values pass, and a channel has the same levels on both sides, the code that was read is wanted
-passes_code : (pair : Pair) (width height : ℕ) (frame : List ℕ) (i j x y c : ℕ) → ((v : Values) → target_values pair.to (rgb_values pair.from v) ≡ v)
+passes_code : (pair : Pair) (width height : ℕ) (frame : List ℕ) (i j x y c : ℕ)
+    → ((v : Values) → target_values pair.to (rgb_values pair.from v) ≡ v)
     → c < 4 → channel_of pair.to.desc j ≡ c → has_channel pair.from.desc c ≡ true → component_at pair.from.desc c ≡ i
     → levels_of pair.from c ≡ levels_of pair.to c → nat 0 <ℚ (levels_of pair.to c).scale
     → wanted pair width height frame j x y ≡ nat (source_component pair.from.desc width height frame i x y)
@@ -68,9 +70,12 @@ class_of_rgb desc (suc (suc zero)) h = rw h refl
 class_of_rgb desc (suc (suc (suc c))) h = refl
 
 -- the levels of a channel of an RGB format go by its depth alone
-levels_of_rgb : (side : Side) (c depth : ℕ) → is_rgb side.desc ≡ true → depth_of side.desc (component_at side.desc c) ≡ depth → levels_of side c ≡ levels Direct depth Full
+levels_of_rgb : (side : Side) (c depth : ℕ) → is_rgb side.desc ≡ true → depth_of side.desc (component_at side.desc c) ≡ depth
+    → levels_of side c ≡ levels Direct depth Full
 unfolding levels
-levels_of_rgb side c depth h same = ap (λ t. levels t (depth_of side.desc (component_at side.desc c)) side.range) (class_of_rgb side.desc c h) ∙ ap (λ d. levels Direct d Full) same
+levels_of_rgb side c depth h same =
+    ap (λ t. levels t (depth_of side.desc (component_at side.desc c)) side.range) (class_of_rgb side.desc c h)
+    ∙ ap (λ d. levels Direct d Full) same
 
 pub depth_some : (desc : Desc) (j : ℕ) → IsValid desc → j < component_count desc → 1 ≤ depth_of desc j
 depth_some desc j valid =
@@ -82,7 +87,8 @@ depth_some desc j valid =
 channel_below : (desc : Desc) (j : ℕ) → IsValid desc → j < component_count desc → channel_of desc j < 4
 channel_below desc j valid listed =
     let most = component_count_most desc valid in
-    elim (desc.alpha && nat_eq (j + 1) (component_count desc)) as (λ b. (if b then 3 else j) < 4) [ true ↦ omega arith | false ↦ omega arith ]
+    elim (desc.alpha && nat_eq (j + 1) (component_count desc)) as
+    (λ b. (if b then 3 else j) < 4) [ true ↦ omega arith | false ↦ omega arith ]
 
 pub passes_codes : PassesCodes
 passes_codes pair width height frame i j x y valid p q in_from in_to channel depth =
@@ -93,6 +99,8 @@ passes_codes pair width height frame i j x y valid p q in_from in_to channel dep
     let component : component_at pair.from.desc c ≡ i = sym (ap (component_at pair.from.desc) channel) ∙ from.component i in_from in
     let from_levels = levels_of_rgb pair.from c (depth_of pair.to.desc j) p (ap (depth_of pair.from.desc) component ∙ depth) in
     let to_levels = levels_of_rgb pair.to c (depth_of pair.to.desc j) q (ap (depth_of pair.to.desc) (to.component j in_to)) in
-    passes_code pair width height frame i j x y c (λ v. passes_rgb pair.from pair.to v p q) (channel_below pair.to.desc j valid.to in_to) refl there component
+    passes_code pair width height frame i j x y c (λ v. passes_rgb pair.from pair.to v p q)
+    (channel_below pair.to.desc j valid.to in_to) refl there component
     (from_levels ∙ sym to_levels)
-    (subst (λ l. nat 0 <ℚ l.scale) (sym to_levels) (scale_positive Direct (depth_of pair.to.desc j) Full (depth_some pair.to.desc j valid.to in_to)))
+    (subst (λ l. nat 0 <ℚ l.scale) (sym to_levels)
+    (scale_positive Direct (depth_of pair.to.desc j) Full (depth_some pair.to.desc j valid.to in_to)))

@@ -23,7 +23,8 @@ use Rattle.pix_meaning.proofs.Passing.{value_there}
 pub source_below : SourcesFit
 unfolding source_component
 source_below desc width height frame j x y bytes =
-    elim desc.palette as (λ b. (if b then entry_component width height frame (frame_component desc width height frame 0 x y) j else frame_component desc width height frame j x y) < 2 ^ (if b then 8 else (component_of desc j).depth)) [
+    elim desc.palette as (λ b. (if b then entry_component width height frame (frame_component desc width height frame 0 x y) j
+    else frame_component desc width height frame j x y) < 2 ^ (if b then 8 else (component_of desc j).depth)) [
       | true ↦ byte_below frame (width * height + 4 * frame_component desc width height frame 0 x y + entry_byte j) bytes
       | false ↦ frame_component_below desc width height frame j x y
     ]
@@ -34,19 +35,23 @@ SameCodes desc width rows height slice frame x y row =
     (i : ℕ) → i < component_count desc → source_component desc width rows slice i x y ≡ source_component desc width height frame i x row
 
 -- so they have the same values
-same_value : (side : Side) (width rows height : ℕ) (slice frame : List ℕ) (x y row c : ℕ) → IsValid side.desc → SameCodes side.desc width rows height slice frame x y row → c < 4
+same_value : (side : Side) (width rows height : ℕ) (slice frame : List ℕ) (x y row c : ℕ) → IsValid side.desc
+    → SameCodes side.desc width rows height slice frame x y row → c < 4
     → source_value side width rows slice x y c ≡ source_value side width height frame x row c
 unfolding source_value
 same_value side width rows height slice frame x y row c valid same below =
-    elim (cases_Bool (has_channel side.desc c)) as (λ _. source_value side width rows slice x y c ≡ source_value side width height frame x row c) [
+    elim (cases_Bool (has_channel side.desc c)) as
+    (λ _. source_value side width rows slice x y c ≡ source_value side width height frame x row c) [
       | inl there ↦
           value_there side width rows slice x y c there
-          ∙ ap (λ code. from_code (levels_of side c) (nat code)) (same (component_at side.desc c) ((has_channels side.desc valid).listed c below there))
+          ∙ ap (λ code. from_code (levels_of side c) (nat code))
+          (same (component_at side.desc c) ((has_channels side.desc valid).listed c below there))
           ∙ sym (value_there side width height frame x row c there)
       | inr none ↦ rw none refl
     ]
 
-same_pixel : (side : Side) (width rows height : ℕ) (slice frame : List ℕ) (x y row : ℕ) → IsValid side.desc → SameCodes side.desc width rows height slice frame x y row
+same_pixel : (side : Side) (width rows height : ℕ) (slice frame : List ℕ) (x y row : ℕ) → IsValid side.desc
+    → SameCodes side.desc width rows height slice frame x y row
     → source_values side width rows slice x y ≡ source_values side width height frame x row
 unfolding source_values
 same_pixel side width rows height slice frame x y row valid same =
@@ -58,6 +63,8 @@ unfolding result_of wanted
 slices_agree pair width height first rows frame slice j x y valid same =
     let c = channel_of pair.to.desc j in
     let result = λ (values : Values) (row : ℕ).
-    clamped (depth_of pair.to.desc j) (floor (to_code (levels_of pair.to c) (value_at (target_values pair.to (rgb_values pair.from values)) c) +ℚ dither_at pair.dither x row)) in
+    clamped (depth_of pair.to.desc j)
+    (floor (to_code (levels_of pair.to c) (value_at (target_values pair.to (rgb_values pair.from values)) c)
+    +ℚ dither_at pair.dither x row)) in
     ap (λ values. result values (first + y)) (same_pixel pair.from width rows height slice frame x y (first + y) valid.from same)
     ∙ ap (result (source_values pair.from width height frame x (first + y))) (sym (zero-add (first + y)))

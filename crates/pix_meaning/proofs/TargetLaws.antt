@@ -41,13 +41,17 @@ pub result_below : ResultsFit
 unfolding result_of
 result_below pair width height first frame j x y = clamped_below (depth_of pair.to.desc j) _
 
-pub results_fit : (pair : Pair) (width height first : ℕ) (frame : List ℕ) → pair.to.desc.palette ≡ false → FitDepths pair.to.desc width height (result_of pair width height first frame)
+pub results_fit : (pair : Pair) (width height first : ℕ) (frame : List ℕ) → pair.to.desc.palette ≡ false
+    → FitDepths pair.to.desc width height (result_of pair width height first frame)
 results_fit pair width height first frame none j x y listed column row =
-    subst (λ b. result_of pair width height first frame j x y < 2 ^ (if b then 8 else (component_of pair.to.desc j).depth)) none (result_below pair width height first frame j x y)
+    subst (λ b. result_of pair width height first frame j x y < 2 ^ (if b then 8 else (component_of pair.to.desc j).depth)) none
+    (result_below pair width height first frame j x y)
 
-pub has_one_target_frame : (pair : Pair) (width height first : ℕ) (frame : List ℕ) → IsValidPair pair → pair.to.desc.palette ≡ false → HasOneTargetFrame pair width height first frame
+pub has_one_target_frame : (pair : Pair) (width height first : ℕ) (frame : List ℕ) → IsValidPair pair → pair.to.desc.palette ≡ false
+    → HasOneTargetFrame pair width height first frame
 unfolding target_rows
 has_one_target_frame pair width height first frame valid none = record {
-  made = frame_says pair.to.desc width height (result_of pair width height first frame) valid.to none (results_fit pair width height first frame none);
+  made = frame_says pair.to.desc width height (result_of pair width height first frame) valid.to none
+      (results_fit pair width height first frame none);
   only = λ target is. only_frame pair.to.desc width height (result_of pair width height first frame) target valid.to none is;
 }

@@ -15,7 +15,15 @@ comp plane step offset shift depth = record { plane = plane; step = step; offset
 
 -- gray, of one component
 abbrev pub luma_alone : Comp → Desc
-luma_alone y = record { count = 1; comps = y ∷ no_component ∷ no_component ∷ no_component ∷ []; be = false; rgb = false; alpha = false; palette = false }
+luma_alone y = record {
+  count = 1;
+  comps = y ∷ no_component ∷ no_component ∷ no_component ∷ [];
+  be = false;
+  rgb = false;
+  alpha =
+      false;
+  palette = false;
+}
 
 -- three components in little-endian order, without alpha
 abbrev pub opaque : Bool → Comp → Comp → Comp → Desc

@@ -19,7 +19,8 @@ pub record HasChannels (desc : Desc) : Type 0 where
 
 -- between two sides that are not RGB and have one matrix luma and chroma pass as they are
 abbrev pub PassesLumaAndChroma : Type 0
-PassesLumaAndChroma = (from to : Side) (v : Values) → is_rgb from.desc ≡ false → is_rgb to.desc ≡ false → from.matrix ≡ to.matrix → IsMatrix from.matrix
+PassesLumaAndChroma = (from to : Side) (v : Values) → is_rgb from.desc ≡ false → is_rgb to.desc ≡ false → from.matrix
+    ≡ to.matrix → IsMatrix from.matrix
     → target_values to (rgb_values from v) ≡ v
 
 -- between two RGB sides a component of the same channel and the same depth passes as it is: the code that was read is wanted
@@ -31,7 +32,8 @@ PassesCodes = (pair : Pair) (width height : ℕ) (frame : List ℕ) (i j x y : �
 
 -- a wanted value that is a code of its component is the result, whatever the dither
 abbrev pub KeepsCodes : Type 0
-KeepsCodes = (pair : Pair) (width height first : ℕ) (frame : List ℕ) (j x y code : ℕ) → wanted pair width height frame j x y ≡ nat code → code < 2 ^ depth_of pair.to.desc j
+KeepsCodes = (pair : Pair) (width height first : ℕ) (frame : List ℕ) (j x y code : ℕ) → wanted pair width height frame j x y
+    ≡ nat code → code < 2 ^ depth_of pair.to.desc j
     → result_of pair width height first frame j x y ≡ code
 
 -- each code that is read of a frame of bytes fits the depth of its component
@@ -41,12 +43,15 @@ SourcesFit = (desc : Desc) (width height : ℕ) (frame : List ℕ) (j x y : ℕ)
 
 -- each result fits the depth of its component
 abbrev pub ResultsFit : Type 0
-ResultsFit = (pair : Pair) (width height first : ℕ) (frame : List ℕ) (j x y : ℕ) → result_of pair width height first frame j x y < 2 ^ depth_of pair.to.desc j
+ResultsFit = (pair : Pair) (width height first : ℕ) (frame : List ℕ)
+    (j x y : ℕ) → result_of pair width height first frame j x y < 2 ^ depth_of pair.to.desc j
 
--- A pixel of a slice, which begins at the row `first` of a frame, has the results that it has in the whole frame, where the same codes are read.
+-- A pixel of a slice, which begins at the row `first` of a frame, has the results that it has in the whole frame, where the same codes are
+-- read.
 abbrev pub SlicesAgree : Type 0
 SlicesAgree = (pair : Pair) (width height first rows : ℕ) (frame slice : List ℕ) (j x y : ℕ) → IsValidPair pair
-    → ((i : ℕ) → i < component_count pair.from.desc → source_component pair.from.desc width rows slice i x y ≡ source_component pair.from.desc width height frame i x (first + y))
+    → ((i : ℕ) → i < component_count pair.from.desc
+    → source_component pair.from.desc width rows slice i x y ≡ source_component pair.from.desc width height frame i x (first + y))
     → result_of pair width rows first slice j x y ≡ result_of pair width height 0 frame j x (first + y)
 
 -- A source frame has exactly one target frame: the rows that are made of the results, and no other bytes.

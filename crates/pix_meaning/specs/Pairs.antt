@@ -11,7 +11,8 @@ use Rattle.colour_matrix.specs.declared.class.Levels.{Levels}
 use Rattle.pix_meaning.specs.declared.pair.Side.{Side}
 use Rattle.pix_meaning.specs.declared.pair.Pair.{Pair}
 
--- A pair is valid where both descriptors pass the check, both matrices are within their bounds, and the dither is 0 to 4. A matrix is three plain
+-- A pair is valid where both descriptors pass the check, both matrices are within their bounds, and the dither is 0 to 4. A matrix is three
+-- plain
 -- numbers in the code, so its bounds are a part of a valid pair.
 pub record IsValidPair (pair : Pair) : Type 0 where
   pub from : IsValid pair.from.desc
@@ -20,7 +21,8 @@ pub record IsValidPair (pair : Pair) : Type 0 where
   pub to_matrix : IsMatrix pair.to.matrix
   pub dither : pair.dither ≤ 4
 
--- A format of red, green and blue. A palette format is one too, by its entries: its own component is an index, and its flag for RGB is not set
+-- A format of red, green and blue. A palette format is one too, by its entries: its own component is an index, and its flag for RGB is not
+-- set
 -- (FFmpeg's libavutil/pixdesc.h, AV_PIX_FMT_FLAG_RGB and AV_PIX_FMT_FLAG_PAL).
 abbrev pub is_rgb : Desc → Bool
 is_rgb desc = desc.rgb || desc.palette
@@ -33,7 +35,7 @@ component_count desc = if desc.palette then 4 else desc.count
 abbrev pub depth_of : Desc → ℕ → ℕ
 depth_of desc j = if desc.palette then 8 else (component_of desc j).depth
 
--- A channel is a place of a pixel's values: 0 to 3 are R, G, B and alpha, or Y, U, V and alpha. Gray has no channels 1 and 2
+-- A channel is one of a pixel's four values: 0 to 3 are R, G, B and alpha, or Y, U, V and alpha. Gray has no channels 1 and 2
 -- (pixdesc.h, AVPixFmtDescriptor, comp).
 abbrev pub has_channel : Desc → ℕ → Bool
 has_channel desc zero = Bool.true

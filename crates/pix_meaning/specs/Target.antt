@@ -13,13 +13,15 @@ use Rattle.pix_meaning.specs.Values.{wanted}
 unfoldable pub clamped : ℕ → ℤ → ℕ
 clamped depth z = count_of (int_min (int_max z (pos 0)) (pos (2 ^ depth - 1)))
 
--- The code of the target's component j at x and y. A slice of rows is converted as a frame of its own, and `first` is the row of the whole frame at
+-- The code of the target's component j at x and y. A slice of rows is converted as a frame of its own, and `first` is the row of the whole
+-- frame at
 -- which it begins: the dither goes by the place in the whole frame.
 unfoldable pub result_of : Pair → ℕ → ℕ → ℕ → List ℕ → ℕ → ℕ → ℕ → ℕ
 result_of pair width height first frame j x y =
     clamped (depth_of pair.to.desc j) (floor (wanted pair width height frame j x y +ℚ dither_at pair.dither x (first + y)))
 
--- These are the target's rows, where the target has no palette: each component reads as its result, and every bit that no component reads is 0.
+-- These are the target's rows, where the target has no palette: each component reads as its result, and every bit that no component reads
+-- is 0.
 abbrev pub IsTargetRows : Pair → ℕ → ℕ → ℕ → List ℕ → List ℕ → Type 0
 IsTargetRows pair width height first frame target = IsFrameOf pair.to.desc width height (result_of pair width height first frame) target
 

@@ -10,7 +10,8 @@ use Rattle.pix_meaning.specs.declared.pair.Side.{Side}
 use Rattle.pix_meaning.specs.declared.pair.Pair.{Pair}
 use Rattle.pix_meaning.specs.Pairs.{is_rgb, has_channel, component_at, channel_of, levels_of}
 
--- An entry of a palette is a little-endian number of four bytes with alpha highest, then red, green and blue. These are the bytes of its components
+-- An entry of a palette is a little-endian number of four bytes with alpha highest, then red, green and blue. These are the bytes of its
+-- components
 -- red, green, blue and alpha.
 abbrev pub entry_byte : ℕ → ℕ
 entry_byte zero = 2
@@ -31,7 +32,8 @@ source_component desc width height frame j x y =
 -- the value of channel c of the pixel at x and y; gray has the chroma 0, and a missing alpha is 1
 unfoldable pub source_value : Side → ℕ → ℕ → List ℕ → ℕ → ℕ → ℕ → ℚ
 source_value side width height frame x y c =
-    if has_channel side.desc c then from_code (levels_of side c) (nat (source_component side.desc width height frame (component_at side.desc c) x y))
+    if has_channel side.desc c then
+    from_code (levels_of side c) (nat (source_component side.desc width height frame (component_at side.desc c) x y))
     else (if nat_eq c 3 then nat 1 else nat 0)
 
 -- the values of all channels of the pixel at x and y
@@ -55,4 +57,5 @@ target_values to v = if is_rgb to.desc then v else from_rgb to.matrix v
 unfoldable pub wanted : Pair → ℕ → ℕ → List ℕ → ℕ → ℕ → ℕ → ℚ
 wanted pair width height frame j x y =
     let c = channel_of pair.to.desc j in
-    to_code (levels_of pair.to c) (value_at (target_values pair.to (rgb_values pair.from (source_values pair.from width height frame x y))) c)
+    to_code (levels_of pair.to c) (value_at
+    (target_values pair.to (rgb_values pair.from (source_values pair.from width height frame x y))) c)

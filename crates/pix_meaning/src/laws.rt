@@ -1,4 +1,4 @@
-// The laws of the definitions, each the contract of a function.
+//! Laws of the meaning of a conversion: each is the contract of a function without a body.
 ghost use Rattle.std.specs.Prelude.{◌≡◌, ℕ, false, List};
 ghost use Rattle.pix_desc.specs.declared.desc.Desc.{Desc};
 ghost use Rattle.pix_desc.specs.Layouts.{IsValid};
@@ -42,10 +42,12 @@ pub fn slices_agree()
     ensures { SlicesAgree }
 {}
 
-/// A source frame has exactly one target frame in a format without a palette, and so has each slice of its rows. The
+/// A source frame has exactly one target frame in a format without a palette, and so has each slice
+/// of its rows. The
 /// bytes that a frame of another length lacks count as 0.
 pub fn has_one_target_frame()
-    ensures { (pair : Pair) (width height first : ℕ) (frame : List ℕ) → IsValidPair pair → pair.to.desc.palette ≡ false
+    ensures { (pair : Pair) (width height first : ℕ) (frame : List ℕ) → IsValidPair pair
+        → pair.to.desc.palette ≡ false
         → HasOneTargetFrame pair width height first frame }
 {}
 

@@ -13,11 +13,12 @@ pub struct Side {
     pub range: Range,
 }
 
-/// A conversion: from a side to a side, with an ordered dither over squares of 2^dither by 2^dither pixels.
+/// A conversion: from a side to a side, with an ordered dither over squares of 2^dither by 2^dither
+/// pixels.
 #[derive(Clone, Copy, Debug, PartialEq, Eq)]
 pub struct Pair {
     pub from: Side,
     pub to: Side,
-    /// 0 to 4. At 0 every place has the value 1/2: rounding to the nearest, half up.
+    /// 0 to 4. At 0 every pixel has the value 1/2: rounding to the nearest, half up.
     pub dither: u8,
 }

@@ -8,7 +8,8 @@ use crate::pair::{Pair, Side};
 use colour_matrix::Matrix;
 use pix_desc::check;
 
-/// Whether both descriptors pass the check, both matrices are within the bounds of a matrix, and the dither is at most 4.
+/// Whether both descriptors pass the check, both matrices are within the bounds of a matrix, and
+/// the dither is at most 4.
 pub fn pair_valid(pair: &Pair) -> bool
     ensures { IsTrue result ↔ IsValidPair pair.now }
 {

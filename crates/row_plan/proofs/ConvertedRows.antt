@@ -9,7 +9,7 @@ use Rattle.pix_meaning.specs.Pairs.{IsValidPair}
 use Rattle.pix_meaning.specs.Target.{target_rows, result_of}
 use Rattle.pix_meaning.proofs.TargetLaws.{has_one_target_frame}
 use Rattle.op_list.specs.declared.types.PixType.{PixType}
-use Rattle.op_list.specs.declared.place.Place.{Place}
+use Rattle.op_list.specs.declared.position.PixelPosition.{PixelPosition}
 use Rattle.op_list.specs.Types.{bits, bytes, is_whole_type}
 use Rattle.op_list.specs.Values.{four}
 use Rattle.op_list.specs.Pixel.{element_of, HasElements}
@@ -50,7 +50,7 @@ filled : (pair : Pair) (elem : PixType) (planes : List ℕ) (width rows : ℕ) �
 filled pair elem planes width rows holds =
     (fills_frames pair.to.desc holds.valid.to holds.plain).size width rows ∙ rw (holds.planes_are, holds.elem_is) refl
 
-pub has_elements : (pair : Pair) (elem : PixType) (planes output : List ℕ) (place : Place) → IsPlanned pair elem planes → place.x < place.width → place.row < place.rows
+pub has_elements : (pair : Pair) (elem : PixType) (planes output : List ℕ) (place : PixelPosition) → IsPlanned pair elem planes → place.x < place.width → place.row < place.rows
     → length output ≡ frame_length pair.to.desc place.width place.rows → HasElements elem planes output place
 has_elements pair elem planes output place holds column down size = record {
   column = column;
@@ -76,7 +76,7 @@ pub converts : (pair : Pair) (elem : PixType) (planes input old new numbers : Li
     → All (λ byte. byte < 256) input → length input ≡ frame_length pair.from.desc width rows
     → Some numbers ≡ checked_run (recipe pair) input width rows x row (first + row)
     → ((i : ℕ) → i < sum planes → element_of elem planes new (record { width = width; rows = rows; x = x; row = row; y = first + row }) i ≡ slice_index numbers i % 2 ^ bits elem)
-    → ((other : Place) → IsOtherPixel (record { width = width; rows = rows; x = x; row = row; y = first + row }) other → (i : ℕ) → element_of elem planes new other i ≡ element_of elem planes old other i)
+    → ((other : PixelPosition) → IsOtherPixel (record { width = width; rows = rows; x = x; row = row; y = first + row }) other → (i : ℕ) → element_of elem planes new other i ≡ element_of elem planes old other i)
     → HaveSameElements elem planes width rows (row * width + x) old (target_rows pair width rows first input)
     → HaveSameElements elem planes width rows (row * width + x + 1) new (target_rows pair width rows first input)
 converts pair elem planes input old new numbers width rows first x row holds column down small size is stored others before =

@@ -8,3 +8,6 @@ pub mod Written
 pub mod ConvertedPixels
 pub mod ConvertedRows
 pub mod PlannedPairs
+pub mod SlicePlanes
+pub mod SliceBytes
+pub mod SliceTargets

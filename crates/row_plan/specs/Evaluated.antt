@@ -1,9 +1,9 @@
 -- Which pairs have a plan: the checked evaluation of their list has an answer at every pixel, as it has for all formats of the table.
-use Rattle.std.specs.Prelude.{◌≡◌, ◌<◌, false, ℕ, List, All, Some}
+use Rattle.std.specs.Prelude.{◌≡◌, ◌<◌, ◌≤◌, false, ℕ, List, All, Some}
 use Rattle.colour_matrix.specs.declared.class.Range.{Range}
 use Rattle.colour_matrix.specs.declared.matrix.Matrix.{Matrix}
 use Rattle.colour_matrix.specs.Matrix.{matrix_named}
-use Rattle.desc_table.specs.Format.{desc_of}
+use Rattle.desc_table.specs.Format.{desc_of, format_count}
 use Rattle.pix_meaning.specs.declared.pair.Side.{Side}
 use Rattle.pix_meaning.specs.declared.pair.Pair.{Pair}
 use Rattle.pix_meaning.specs.Pairs.{IsValidPair}
@@ -28,3 +28,14 @@ IsEvaluated pair = (frame : List ℕ) (width rows x row y : ℕ) → All (λ byt
 pub record IsPlannable (pair : Pair) : Type 0 where
   pub valid : IsValidPair pair
   pub evaluated : pair.to.desc.palette ≡ false → IsEvaluated pair
+
+-- a side whose format is a row of the table, with a matrix that has a name
+pub record IsTableSide (side : Side) : Type 0 where
+  pub id : ℕ
+  pub known : id < format_count
+  pub desc : side.desc ≡ desc_of id
+  pub matrix : IsNamed side.matrix
+
+-- every pair of two such sides has a plan
+abbrev pub TablePairsHavePlans : Type 0
+TablePairsHavePlans = (pair : Pair) → IsTableSide pair.from → IsTableSide pair.to → pair.dither ≤ 4 → IsPlannable pair

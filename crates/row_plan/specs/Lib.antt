@@ -1,3 +1,4 @@
 pub mod Evaluated
 pub mod PackedRgb
+pub mod Slices
 pub mod Rows

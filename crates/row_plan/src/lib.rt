@@ -9,6 +9,8 @@ mod making;
 mod plans;
 mod rows;
 mod slice;
+#[cfg(test)]
+mod tests;
 
 pub use making::plan;
 pub use plans::Plan;

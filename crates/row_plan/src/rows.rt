@@ -8,7 +8,7 @@ ghost use Rattle.row_plan.specs.Rows.{IsConverted};
 
 use crate::plans::Plan;
 use crate::slice::Slice;
-use op_list::{Op, PixType, Place, store_elements};
+use op_list::{Op, PixType, PixelPosition, store_elements};
 
 // The elements that a list's Write gives to the target.
 #[derive(Clone, Copy)]
@@ -63,7 +63,7 @@ impl Plan {
         ensures size { length output.new ≡ length output.old }
         ensures after { IsConverted self.now.pair elements.now slice.now input.now output.new (row * slice.now.width + x + 1) }
     {
-        let place = Place {
+        let place = PixelPosition {
             width: slice.width,
             rows: slice.rows,
             x,

@@ -19,10 +19,12 @@ returns-clause-coefficients c =
     (rw (q, r, b) at c.negative_ratio-4.ensures)
 
 pub returns-clause-equations : goal.returns-clause-equations
-returns-clause-equations c = λ e. ap (λ rows. by_rows rows e) (returns-clause-coefficients c) ∙ by_rows-from_rgb_rows c.args.m.now e c.requires
+returns-clause-equations c = λ e. ap (λ rows. by_rows rows e) (returns-clause-coefficients c)
+    ∙ by_rows-from_rgb_rows c.args.m.now e c.requires
 
 pub returns-clause-undoes : goal.returns-clause-undoes
 returns-clause-undoes c = λ e. from_rgb-to_rgb c.args.m.now e c.requires
 
 pub returns-clause-inverse : goal.returns-clause-inverse
-returns-clause-inverse c = ap (λ rows. product rows (to_rgb_rows c.args.m.now)) (returns-clause-coefficients c) ∙ product-from_rgb_rows c.args.m.now c.requires
+returns-clause-inverse c = ap (λ rows. product rows (to_rgb_rows c.args.m.now)) (returns-clause-coefficients c)
+    ∙ product-from_rgb_rows c.args.m.now c.requires

@@ -21,4 +21,5 @@ pub returns-clause-undoes : goal.returns-clause-undoes
 returns-clause-undoes c = λ e. to_rgb-from_rgb c.args.m.now e c.requires
 
 pub returns-clause-inverse : goal.returns-clause-inverse
-returns-clause-inverse c = ap (λ rows. product rows (from_rgb_rows c.args.m.now)) (returns-clause-coefficients c) ∙ product-to_rgb_rows c.args.m.now c.requires
+returns-clause-inverse c = ap (λ rows. product rows (from_rgb_rows c.args.m.now)) (returns-clause-coefficients c)
+    ∙ product-to_rgb_rows c.args.m.now c.requires

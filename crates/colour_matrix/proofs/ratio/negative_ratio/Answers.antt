@@ -11,7 +11,8 @@ unwrap-requires c =
     let g : FitsSigned w128 c.from-2.result = search rules in
     let z = pos 0 -ℤ cast_signed w128 (cast_unsigned w128 c.from.result) in
     let h : FitsSigned w128 z = search rules in
-    rw (ratio_known c.new.result z (neg_ℤ (pos c.args.numerator)) c.from-2.result c.args.denominator h g (negative_is c.from.result c.args.numerator f c.from.ensures) c.from-2.ensures c.requires c.new.ensures.exact)
+    rw (ratio_known c.new.result z (neg_ℤ (pos c.args.numerator)) c.from-2.result c.args.denominator h g
+    (negative_is c.from.result c.args.numerator f c.from.ensures) c.from-2.ensures c.requires c.new.ensures.exact)
 
 pub returns : goal.returns
 returns c =
@@ -19,5 +20,6 @@ returns c =
     let g : FitsSigned w128 c.from-2.result = search rules in
     let z = pos 0 -ℤ cast_signed w128 (cast_unsigned w128 c.from.result) in
     let h : FitsSigned w128 z = search rules in
-    let is = sym c.unwrap.ensures ∙ ratio_known c.new.result z (neg_ℤ (pos c.args.numerator)) c.from-2.result c.args.denominator h g (negative_is c.from.result c.args.numerator f c.from.ensures) c.from-2.ensures c.requires c.new.ensures.exact in
+    let is = sym c.unwrap.ensures ∙ ratio_known c.new.result z (neg_ℤ (pos c.args.numerator)) c.from-2.result c.args.denominator h g
+    (negative_is c.from.result c.args.numerator f c.from.ensures) c.from-2.ensures c.requires c.new.ensures.exact in
     cc

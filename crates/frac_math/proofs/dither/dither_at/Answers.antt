@@ -8,21 +8,26 @@ use Rattle.frac_math.proofs.Reduction.{reduced_known}
 use Rattle.frac_math.proofs.dither.dither_at.Goals as goal
 
 pub loop-i-init : goal.loop-i-init
-loop-i-init c = record { sum = sym (index_number-zero c.args.x c.args.y); places = refl }
+loop-i-init c = record { sum = sym (index_number-zero c.args.x c.args.y); cells = refl }
 
 pub overflow_mul-sum : goal.overflow_mul-sum
 overflow_mul-sum c = omega (arith, small_numbers c.loop-i.i c.args.x c.args.y (omega arith))
 
 pub overflow_add-sum : goal.overflow_add-sum
-overflow_add-sum c = omega (arith, small_numbers c.loop-i.i c.args.x c.args.y (omega arith), index_most (digit c.loop-i.i c.args.x) (digit c.loop-i.i c.args.y), c.index.ensures)
+overflow_add-sum c = omega (
+  arith,
+  small_numbers c.loop-i.i c.args.x c.args.y (omega arith),
+  index_most (digit c.loop-i.i c.args.x) (digit c.loop-i.i c.args.y),
+  c.index.ensures,
+)
 
-pub overflow_mul-places : goal.overflow_mul-places
-overflow_mul-places c = omega (arith, small_numbers c.loop-i.i c.args.x c.args.y (omega arith))
+pub overflow_mul-cells : goal.overflow_mul-cells
+overflow_mul-cells c = omega (arith, small_numbers c.loop-i.i c.args.x c.args.y (omega arith))
 
 pub loop-i-preserved : goal.loop-i-preserved
 loop-i-preserved c = record {
   sum = (let last = index_number-add-one c.loop-i.i c.args.x c.args.y in omega (arith, c.loop-i.invariant.sum, c.index.ensures, last));
-  places = rw add-one (omega (arith, pow-suc 4 c.loop-i.i));
+  cells = rw add-one (omega (arith, pow-suc 4 c.loop-i.i));
 }
 
 pub overflow_mul-sum-2 : goal.overflow_mul-sum-2
@@ -31,8 +36,8 @@ overflow_mul-sum-2 c = omega (arith, small_numbers c.loop-i.i c.args.x c.args.y 
 pub overflow_add-sum-2 : goal.overflow_add-sum-2
 overflow_add-sum-2 c = omega (arith, small_numbers c.loop-i.i c.args.x c.args.y (omega arith))
 
-pub overflow_mul-places-2 : goal.overflow_mul-places-2
-overflow_mul-places-2 c = omega (arith, small_numbers c.loop-i.i c.args.x c.args.y (omega arith))
+pub overflow_mul-cells-2 : goal.overflow_mul-cells-2
+overflow_mul-cells-2 c = omega (arith, small_numbers c.loop-i.i c.args.x c.args.y (omega arith))
 
 pub reduced-requires : goal.reduced-requires
 reduced-requires c =
@@ -41,5 +46,7 @@ reduced-requires c =
 
 pub returns : goal.returns
 returns c =
-    dither_known c.reduced.result c.args.k c.loop-i.i c.args.x c.args.y c.loop-i.sum c.loop-i.places (omega arith) c.loop-i.invariant.sum c.loop-i.invariant.places
-    (reduced_known c.reduced.result c.from.result c.from-2.result (pos (2 * c.loop-i.sum + 1)) (2 * c.loop-i.places) (search rules) (search rules) c.from.ensures c.from-2.ensures c.reduced.ensures)
+    dither_known c.reduced.result c.args.k c.loop-i.i c.args.x c.args.y c.loop-i.sum c.loop-i.cells
+    (omega arith) c.loop-i.invariant.sum c.loop-i.invariant.cells
+    (reduced_known c.reduced.result c.from.result c.from-2.result (pos (2 * c.loop-i.sum + 1)) (2 * c.loop-i.cells) (search rules)
+    (search rules) c.from.ensures c.from-2.ensures c.reduced.ensures)

@@ -1,7 +1,7 @@
 use Rattle.std.proofs.Common.{Err, ◌∙◌, ap}
 use Rattle.std.proofs.lemmas.Bool.{both_ways}
 use Rattle.op_list.specs.Typing.{may_follow, are_good, stage_of}
-use Rattle.op_build.proofs.Fronts.{last_is_taken}
+use Rattle.op_list.proofs.Typed.{last_is_taken}
 use Rattle.op_build.proofs.list.append.Goals as goal
 
 pub unreachable-requires : goal.unreachable-requires

@@ -6,6 +6,7 @@ use Rattle.op_list.proofs.run.values_after.Given as goal
 
 abbrev pub invariant-loop-op : goal.invariant-loop-op
 invariant-loop-op l = record {
-  rest : MayRun l.frame l.place l.stage (drop l.op-index l.ops) l.values;
-  same : checked_run_from l.frame l.place Start l.ops no_values ≡ checked_run_from l.frame l.place l.stage (drop l.op-index l.ops) l.values;
+  rest : MayRun l.frame l.position l.stage (drop l.op-index l.ops) l.values;
+  same : checked_run_from l.frame l.position Start l.ops no_values
+      ≡ checked_run_from l.frame l.position l.stage (drop l.op-index l.ops) l.values;
 }

@@ -9,7 +9,8 @@ returns-clause-value c =
     let s = c.args.shift in
     let d = c.args.depth in
     let v = c.args.value in
-    ap (λ r. r / 2 ^ s % 2 ^ d) (replaced_by_or n s d v c.requires.bits c.requires.small) ∙ replaced_value n s d v c.requires.bits c.requires.small
+    ap (λ r. r / 2 ^ s % 2 ^ d) (replaced_by_or n s d v c.requires.bits c.requires.small)
+    ∙ replaced_value n s d v c.requires.bits c.requires.small
 
 pub returns-clause-below : goal.returns-clause-below
 returns-clause-below c = λ i below.
@@ -25,7 +26,8 @@ returns-clause-above c = λ i above.
     let s = c.args.shift in
     let d = c.args.depth in
     let v = c.args.value in
-    ap (λ r. bit_at r i) (replaced_by_or n s d v c.requires.bits c.requires.small) ∙ replaced_above n s d v i c.requires.bits (search rules) c.requires.small above
+    ap (λ r. bit_at r i) (replaced_by_or n s d v c.requires.bits c.requires.small)
+    ∙ replaced_above n s d v i c.requires.bits (search rules) c.requires.small above
 
 pub returns-clause-narrow : goal.returns-clause-narrow
 returns-clause-narrow c = λ few small.
@@ -33,4 +35,5 @@ returns-clause-narrow c = λ few small.
     let s = c.args.shift in
     let d = c.args.depth in
     let v = c.args.value in
-    subst (λ r. r < 256) (sym (replaced_by_or n s d v c.requires.bits c.requires.small)) (replaced_small n s d v 8 few small c.requires.small)
+    subst (λ r. r < 256) (sym (replaced_by_or n s d v c.requires.bits c.requires.small))
+    (replaced_small n s d v 8 few small c.requires.small)

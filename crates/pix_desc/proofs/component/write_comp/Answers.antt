@@ -10,7 +10,11 @@ pub bounds-desc-j : goal.bounds-desc-j
 bounds-desc-j c = omega (arith, (laid_out c.args.desc.now c.requires.valid).most, c.requires.listed)
 
 pub number_at-number-requires : goal.number_at-number-requires
-number_at-number-requires c = omega (arith, inside_row c.args.desc.now c.args.j c.args.x c.args.row.now c.requires.valid c.requires.listed c.requires.inside, c.start_of-at.ensures)
+number_at-number-requires c = omega (
+  arith,
+  inside_row c.args.desc.now c.args.j c.args.x c.args.row.now c.requires.valid c.requires.listed c.requires.inside,
+  c.start_of-at.ensures,
+)
 
 pub overflow_cast-v : goal.overflow_cast-v
 overflow_cast-v c =
@@ -27,7 +31,12 @@ pub with_bits-changed-requires-clause-bits : goal.with_bits-changed-requires-cla
 with_bits-changed-requires-clause-bits c = (laid_out c.args.desc.now c.requires.valid).bits c.args.j c.requires.listed
 
 pub set_number_at-requires-clause-inside : goal.set_number_at-requires-clause-inside
-set_number_at-requires-clause-inside c = omega (arith, inside_row c.args.desc.now c.args.j c.args.x c.args.row.now c.requires.valid c.requires.listed c.requires.inside, c.start_of-at.ensures)
+set_number_at-requires-clause-inside c =
+    omega (
+      arith,
+      inside_row c.args.desc.now c.args.j c.args.x c.args.row.now c.requires.valid c.requires.listed c.requires.inside,
+      c.start_of-at.ensures,
+    )
 
 pub returns-clause-others : goal.returns-clause-others
 returns-clause-others c =
@@ -38,8 +47,10 @@ returns-clause-others c =
     let new = c.set_number_at.new.row in
     let out = laid_out desc c.requires.valid in
     let at : c.start_of-at.result ≡ start_of desc comp c.args.x = c.start_of-at.ensures in
-    let read_new : number_at desc comp new (start_of desc comp c.args.x) ≡ c.with_bits-changed.result = sym (ap (number_at desc comp new) at) ∙ c.set_number_at.ensures.reads in
-    let read_old : c.number_at-number.result ≡ number_at desc comp old (start_of desc comp c.args.x) = c.number_at-number.ensures ∙ ap (number_at desc comp old) at in
+    let read_new : number_at desc comp new (start_of desc comp c.args.x) ≡ c.with_bits-changed.result =
+    sym (ap (number_at desc comp new) at) ∙ c.set_number_at.ensures.reads in
+    let read_old : c.number_at-number.result ≡ number_at desc comp old (start_of desc comp c.args.x) = c.number_at-number.ensures
+    ∙ ap (number_at desc comp old) at in
     record {
       size = search rules;
       bits = kept_bit desc comp c.args.x old new (out.first j c.requires.listed) (out.bits j c.requires.listed)

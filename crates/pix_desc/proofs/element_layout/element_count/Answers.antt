@@ -17,11 +17,13 @@ loop-i-preserved c =
     elim c.if-not-is_used.branch [
       | then-not-is_used w ↦
           let new : is_new (take i comps) comp ≡ true = ap not (sym c.is_used.ensures ∙ w.if-not-is_used.true) in
-          let counted : elements_left comps i ≡ elements_of comp + elements_left comps (i + 1) = more ∙ ap (λ b. cond b (elements_of comp) 0 + elements_left comps (i + 1)) new in
+          let counted : elements_left comps i ≡ elements_of comp + elements_left comps (i + 1) = more
+          ∙ ap (λ b. cond b (elements_of comp) 0 + elements_left comps (i + 1)) new in
           let here : w.from-count.result ≡ elements_of comp = w.from-count.ensures ∙ ap (λ size. comp.step / size) w.bytes_read.ensures in
           record { all = omega (arith, counted, here, c.loop-i.invariant.all); small = omega arith }
       | else-not-is_used w ↦
           let seen : is_new (take i comps) comp ≡ false = ap not (sym c.is_used.ensures ∙ w.if-not-is_used.false) in
-          let counted : elements_left comps i ≡ 0 + elements_left comps (i + 1) = more ∙ ap (λ b. cond b (elements_of comp) 0 + elements_left comps (i + 1)) seen in
+          let counted : elements_left comps i ≡ 0 + elements_left comps (i + 1) = more
+          ∙ ap (λ b. cond b (elements_of comp) 0 + elements_left comps (i + 1)) seen in
           record { all = omega (arith, counted, c.loop-i.invariant.all); small = omega arith }
     ]

@@ -9,5 +9,6 @@ use Rattle.pix_desc.proofs.element_layout.has_mixed_shapes.Goals as goal
 pub returns : goal.returns
 returns c =
     let comps = c.args.comps.now in
-    any_from_yields_List (λ a. list_any (differ_in_shape a) comps) _ _ _ c.any.ensures.ran (YieldsList-from_slice comps cc) (λ x b q k. search (rules, tests))
+    any_from_yields_List (λ a. list_any (differ_in_shape a) comps) _ _ _ c.any.ensures.ran (YieldsList-from_slice comps cc)
+    (λ x b q k. search (rules, tests))
     ∙ some_two-differ_in_shape comps

@@ -7,5 +7,6 @@ pub returns : goal.returns
 returns c =
     let desc = c.args.desc.now in
     let comp = c.args.comp.now in
-    let is : bit_position desc comp c.args.i ≡ pos 8 *ℤ (first_byte desc comp +ℤ pos c.byte_with.result) +ℤ pos ((comp.shift + c.args.i) % 8) = search rules in
+    let is : bit_position desc comp c.args.i
+    ≡ pos 8 *ℤ (first_byte desc comp +ℤ pos c.byte_with.result) +ℤ pos ((comp.shift + c.args.i) % 8) = search rules in
     omega (arith, ints, is, c.first_byte.ensures)

@@ -11,8 +11,10 @@ answer x y z is = ap Some is.1 ∙ sym (checked_sum_some x y is.0)
 
 pub returns-then-right-eq0-clause-exact : goal.returns-then-right-eq0-clause-exact
 returns-then-right-eq0-clause-exact c =
-    let within = is_within c.self.inside.num c.self.inside.den c.args.self.now c.self.invariant (search rules) (search rules) c.self.view_is in
-    let none = is_zero c.other.inside.num c.other.inside.den c.args.other.now c.other.invariant (search rules) c.other.view_is c.if-right-eq0.true in
+    let within = is_within c.self.inside.num c.self.inside.den c.args.self.now c.self.invariant (search rules)
+    (search rules) c.self.view_is in
+    let none = is_zero c.other.inside.num c.other.inside.den c.args.other.now c.other.invariant
+    (search rules) c.other.view_is c.if-right-eq0.true in
     let is = plus_zero c.args.self.now c.args.other.now within none in
     (is.0, c.self.view_is ∙ is.1)
 
@@ -21,8 +23,10 @@ returns-then-right-eq0-clause-value c = answer _ _ _ (returns-then-right-eq0-cla
 
 pub returns-then-left-eq0-clause-exact : goal.returns-then-left-eq0-clause-exact
 returns-then-left-eq0-clause-exact c =
-    let within = is_within c.other.inside.num c.other.inside.den c.args.other.now c.other.invariant (search rules) (search rules) c.other.view_is in
-    let none = is_zero c.self.inside.num c.self.inside.den c.args.self.now c.self.invariant (search rules) c.self.view_is c.if-left-eq0.true in
+    let within = is_within c.other.inside.num c.other.inside.den c.args.other.now c.other.invariant (search rules)
+    (search rules) c.other.view_is in
+    let none = is_zero c.self.inside.num c.self.inside.den c.args.self.now c.self.invariant
+    (search rules) c.self.view_is c.if-left-eq0.true in
     let is = zero_plus c.args.self.now c.args.other.now within none in
     (is.0, c.other.view_is ∙ is.1)
 

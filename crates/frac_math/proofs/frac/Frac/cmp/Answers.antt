@@ -9,9 +9,12 @@ returns-then-right-ge0 c =
     let x = c.args.self.now in
     let y = c.args.other.now in
     let a = abs_known c.unsigned_abs.result c.num-left.result x.numerator (search rules) c.num-left.ensures c.unsigned_abs.ensures.value in
-    let b = abs_known c.unsigned_abs-then-right-ge0.result c.den.result (pos y.denominator) (search rules) c.den.ensures c.unsigned_abs-then-right-ge0.ensures.value in
-    let d = abs_known c.unsigned_abs-then-right-ge0-2.result c.num-right.result y.numerator (search rules) c.num-right.ensures c.unsigned_abs-then-right-ge0-2.ensures.value in
-    let e = abs_known c.unsigned_abs-then-right-ge0-3.result c.den-then-right-ge0.result (pos x.denominator) (search rules) c.den-then-right-ge0.ensures c.unsigned_abs-then-right-ge0-3.ensures.value in
+    let b = abs_known c.unsigned_abs-then-right-ge0.result c.den.result (pos y.denominator)
+    (search rules) c.den.ensures c.unsigned_abs-then-right-ge0.ensures.value in
+    let d = abs_known c.unsigned_abs-then-right-ge0-2.result c.num-right.result y.numerator
+    (search rules) c.num-right.ensures c.unsigned_abs-then-right-ge0-2.ensures.value in
+    let e = abs_known c.unsigned_abs-then-right-ge0-3.result c.den-then-right-ge0.result (pos x.denominator)
+    (search rules) c.den-then-right-ge0.ensures c.unsigned_abs-then-right-ge0-3.ensures.value in
     let p : pos 0 ≤ℤ x.numerator = subst (λ z. pos 0 ≤ℤ z) c.num-left.ensures (omega (arith, ints)) in
     let q : pos 0 ≤ℤ y.numerator = subst (λ z. pos 0 ≤ℤ z) c.num-right.ensures (omega (arith, ints)) in
     let o = order_positive x y p q in
@@ -33,10 +36,14 @@ pub returns-else-right-ge0-2 : goal.returns-else-right-ge0-2
 returns-else-right-ge0-2 c =
     let x = c.args.self.now in
     let y = c.args.other.now in
-    let a = abs_known c.unsigned_abs-else-right-ge0-2.result c.num-right.result y.numerator (search rules) c.num-right.ensures c.unsigned_abs-else-right-ge0-2.ensures.value in
-    let b = abs_known c.unsigned_abs-else-right-ge0-2-2.result c.den-else-right-ge0-2.result (pos x.denominator) (search rules) c.den-else-right-ge0-2.ensures c.unsigned_abs-else-right-ge0-2-2.ensures.value in
-    let d = abs_known c.unsigned_abs-else-right-ge0-2-3.result c.num-left.result x.numerator (search rules) c.num-left.ensures c.unsigned_abs-else-right-ge0-2-3.ensures.value in
-    let e = abs_known c.unsigned_abs-else-right-ge0-2-4.result c.den-else-right-ge0-2-2.result (pos y.denominator) (search rules) c.den-else-right-ge0-2-2.ensures c.unsigned_abs-else-right-ge0-2-4.ensures.value in
+    let a = abs_known c.unsigned_abs-else-right-ge0-2.result c.num-right.result y.numerator
+    (search rules) c.num-right.ensures c.unsigned_abs-else-right-ge0-2.ensures.value in
+    let b = abs_known c.unsigned_abs-else-right-ge0-2-2.result c.den-else-right-ge0-2.result (pos x.denominator)
+    (search rules) c.den-else-right-ge0-2.ensures c.unsigned_abs-else-right-ge0-2-2.ensures.value in
+    let d = abs_known c.unsigned_abs-else-right-ge0-2-3.result c.num-left.result x.numerator
+    (search rules) c.num-left.ensures c.unsigned_abs-else-right-ge0-2-3.ensures.value in
+    let e = abs_known c.unsigned_abs-else-right-ge0-2-4.result c.den-else-right-ge0-2-2.result (pos y.denominator)
+    (search rules) c.den-else-right-ge0-2-2.ensures c.unsigned_abs-else-right-ge0-2-4.ensures.value in
     let p : x.numerator <ℤ pos 0 = subst (λ z. z <ℤ pos 0) c.num-left.ensures (omega (arith, ints)) in
     let q : y.numerator <ℤ pos 0 = subst (λ z. z <ℤ pos 0) c.num-right.ensures (omega (arith, ints)) in
     let o = order_negative x y p q in

@@ -20,8 +20,10 @@ unfolding equal_ℚ
 returns-then-num c =
     let x = c.args.self.now in
     let y = c.args.other.now in
-    let e = same_number c.num.result c.num-2.result x.numerator y.numerator (search rules) (search rules) c.num.ensures c.num-2.ensures c.if-num.true in
-    rw (c.den.ensures, c.den-then-num.ensures) (sym (ap (λ (t : Bool). t && eqb x.denominator y.denominator) ((Decides-int_eq x.numerator y.numerator).1 e)))
+    let e = same_number c.num.result c.num-2.result x.numerator y.numerator (search rules)
+    (search rules) c.num.ensures c.num-2.ensures c.if-num.true in
+    rw (c.den.ensures, c.den-then-num.ensures)
+    (sym (ap (λ (t : Bool). t && eqb x.denominator y.denominator) ((Decides-int_eq x.numerator y.numerator).1 e)))
 
 pub returns-else-num : goal.returns-else-num
 unfolding equal_ℚ
@@ -29,5 +31,7 @@ returns-else-num c =
     let x = c.args.self.now in
     let y = c.args.other.now in
     let differ : x.numerator ≡ y.numerator → ⊥ = λ e. c.if-num.false (ap (of_z w128) (c.num.ensures ∙ e ∙ sym c.num-2.ensures)) in
-    is_false (eqb (of_z w128 c.num.result) (of_z w128 c.num-2.result)) (λ t. c.if-num.false (eqb-true (of_z w128 c.num.result) (of_z w128 c.num-2.result) t))
-    ∙ sym (ap (λ (t : Bool). t && eqb x.denominator y.denominator) (is_false (int_eq x.numerator y.numerator) (λ t. differ ((Decides-int_eq x.numerator y.numerator).0 t))))
+    is_false (eqb (of_z w128 c.num.result) (of_z w128 c.num-2.result))
+    (λ t. c.if-num.false (eqb-true (of_z w128 c.num.result) (of_z w128 c.num-2.result) t))
+    ∙ sym (ap (λ (t : Bool). t && eqb x.denominator y.denominator)
+    (is_false (int_eq x.numerator y.numerator) (λ t. differ ((Decides-int_eq x.numerator y.numerator).0 t))))

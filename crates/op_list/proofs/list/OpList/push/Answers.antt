@@ -1,5 +1,5 @@
 use Rattle.std.proofs.Common.{arith, rules}
-use Rattle.op_list.proofs.Pushed.{pushed}
+use Rattle.op_list.proofs.Typed.{pushed}
 use Rattle.op_list.proofs.list.OpList.push.Goals as goal
 
 pub invariant_of-self-2 : goal.invariant_of-self-2

@@ -1,6 +1,7 @@
 use Rattle.std.proofs.Common.{refl, ◌∙◌}
 use Rattle.op_list.specs.Typing.{may_follow}
-use Rattle.op_list.proofs.Applied.{wide_bits, numbers_before, read_pixel, unpack_widths, pack_widths, left_shift, right_shift, dither_levels, swizzle_places, clear_entries}
+use Rattle.op_list.proofs.Applied.{wide_bits, numbers_before, read_pixel, unpack_widths, pack_widths, left_shift, right_shift}
+use Rattle.op_list.proofs.Applied.{dither_levels, swizzle_lanes, clear_entries}
 use Rattle.op_list.proofs.op.Op.apply.Goals as goal
 
 pub read_values-requires : goal.read_values-requires
@@ -44,7 +45,7 @@ pub shifted_right-requires : goal.shifted_right-requires
 shifted_right-requires c = right_shift c.args.stage _ (rw c.in-RightShift.is at c.requires.good)
 
 pub swizzled-requires : goal.swizzled-requires
-swizzled-requires c = swizzle_places c.args.stage _ (rw c.in-Swizzle.is at c.requires.good)
+swizzled-requires c = swizzle_lanes c.args.stage _ (rw c.in-Swizzle.is at c.requires.good)
 
 pub dither_at-requires : goal.dither_at-requires
 dither_at-requires c = dither_levels c.args.stage _ (rw c.in-Dither.is at c.requires.good)

@@ -22,7 +22,7 @@ unwrap-numbers-requires c =
     let elements = c.args.elements.now in
     let slice = c.args.slice.now in
     let small = are_bytes c.args.input.now (λ k. (c.type_inv.input k).fits) in
-    let answer = c.run_pixel.ensures ∙ ap (λ ops. checked_run ops c.args.input.now slice.width slice.rows c.args.x c.args.row (slice.first + c.args.row)) plan.made
+    let answer = c.run_pixel.ensures.checked ∙ ap (λ ops. checked_run ops c.args.input.now slice.width slice.rows c.args.x c.args.row (slice.first + c.args.row)) plan.made
     ∙ evaluates plan.pair elements.elem elements.planes c.args.input.now slice.width slice.rows slice.first c.args.x c.args.row
     (planned plan elements.elem elements.planes c.requires.elem c.requires.planes) c.requires.column c.requires.row small c.requires.input in
     subst IsSome (sym answer) refl
@@ -43,6 +43,6 @@ returns-clause-after c =
     converts plan.pair elements.elem elements.planes c.args.input.now c.args.output.now c.store_elements.new.frame c.unwrap-numbers.result
     slice.width slice.rows slice.first c.args.x c.args.row
     (planned plan elements.elem elements.planes c.requires.elem c.requires.planes) c.requires.column c.requires.row small c.requires.input
-    (sym c.unwrap-numbers.ensures ∙ c.run_pixel.ensures
+    (sym c.unwrap-numbers.ensures ∙ c.run_pixel.ensures.checked
     ∙ ap (λ ops. checked_run ops c.args.input.now slice.width slice.rows c.args.x c.args.row (slice.first + c.args.row)) plan.made)
     c.store_elements.ensures.stored c.store_elements.ensures.others c.requires.before

@@ -1,0 +1,2 @@
+pub mod FractionBounds
+pub mod FractionBoundSteps
