@@ -1,5 +1,5 @@
 -- Numbers that are read digit by digit.
-use Rattle.std.proofs.Common.{◌≡◌, ℕ, suc, ◌+◌, ◌-◌, ◌*◌, ◌<◌, ◌≤◌, Bool, true, false, ◌&&◌, List, [], ◌∷◌, ◌++◌, length, take, get_or, refl, sym, ap, ◌∙◌, arith, add-one}
+use Rattle.std.proofs.Common.{◌≡◌, ℕ, ◌+◌, ◌-◌, ◌*◌, ◌<◌, ◌≤◌, true, false, List, [], ◌∷◌, ◌++◌, length, take, get_or, refl, ap, ◌∙◌, arith, add-one}
 use Rattle.std.specs.Prelude.{None, nat_le}
 use Rattle.std.specs.List.{list_all}
 use Rattle.std.specs.Char.{is_ascii_digit, digit_value}
@@ -11,7 +11,6 @@ use Rattle.std.proofs.lemmas.Bool.{lt-leb, leb-true}
 use Rattle.std.proofs.lemmas.List.Folds.{list_all-append}
 use Rattle.std.proofs.lemmas.Int.Digits.{digits_value_push}
 use Rattle.std.proofs.lemmas.Str.{digit_value_digit}
-use Rattle.std.proofs.lemmas.Str.Parse.{digits_value-take-le}
 use Rattle.y4m_io.specs.HeaderLine.{is_numeral, extent_of}
 
 -- a number above the limit is no extent
@@ -32,13 +31,16 @@ digit_value-digit code digit =
 next-front : (text : List ℕ) (place : ℕ) → place < length text → take (place + 1) text ≡ take place text ++ (get_or text place 0 ∷ [])
 next-front text place below = ap (λ n. take n text) (add-one place) ∙ take-suc text place 0 below
 
-pub digits-next : (text : List ℕ) (place number digit : ℕ) → place < length text → number ≡ digits_value 10 (take place text) → digit_value (get_or text place 0) ≡ digit
+pub digits-next : (text : List ℕ) (place number digit : ℕ) → place < length text → number ≡ digits_value 10 (take place text)
+    → digit_value (get_or text place 0) ≡ digit
     → number * 10 + digit ≡ digits_value 10 (take (place + 1) text)
 digits-next text place number digit below is value =
     let next = ap (digits_value 10) (next-front text place below) ∙ digits_value_push 10 (take place text) (get_or text place 0) in
     omega (arith, next, is, value)
 
-pub all_digits-next : (text : List ℕ) (place : ℕ) → place < length text → list_all is_ascii_digit (take place text) ≡ true → is_ascii_digit (get_or text place 0) ≡ true
+pub all_digits-next : (text : List ℕ) (place : ℕ) → place < length text → list_all is_ascii_digit (take place text) ≡ true
+    → is_ascii_digit (get_or text place 0) ≡ true
     → list_all is_ascii_digit (take (place + 1) text) ≡ true
 all_digits-next text place below before now =
-    ap (list_all is_ascii_digit) (next-front text place below) ∙ list_all-append is_ascii_digit (take place text) (get_or text place 0 ∷ []) ∙ rw (before, now) refl
+    ap (list_all is_ascii_digit) (next-front text place below) ∙ list_all-append is_ascii_digit (take place text) (get_or text place 0 ∷ [])
+    ∙ rw (before, now) refl

@@ -1,5 +1,5 @@
 -- What every header has, and which faults its tags can have.
-use Rattle.std.proofs.Common.{◌≡◌, ℕ, ◌*◌, ◌≤◌, Bool, true, false, cond, ◌&&◌, List, [], ◌∷◌, refl, sym, ap, ◌∙◌, subst}
+use Rattle.std.proofs.Common.{◌≡◌, ℕ, ◌*◌, ◌≤◌, Bool, true, false, cond, ◌&&◌, List, [], ◌∷◌, refl, ap, ◌∙◌, subst}
 use Rattle.std.specs.Prelude.{Option, None, Some, IfSome, Result, Ok, Err, IfOk, IfErr, find, nat_le}
 use Rattle.std.specs.Option.{option_and_then, ok_or, is_some}
 use Rattle.std.specs.Result.{result_ok}
@@ -8,7 +8,6 @@ use Rattle.std.specs.List.{list_all}
 use Rattle.std.specs.Str.Parse.{digits_value}
 use Rattle.std.proofs.lemmas.Bool.{leb-true}
 use Rattle.desc_table.specs.declared.fault.FormatFault.{FormatFault}
-use Rattle.desc_table.specs.Format.{name_of}
 use Rattle.desc_table.specs.Refused.{lookup}
 use Rattle.desc_table.proofs.Lookup.{lookup-Ok}
 use Rattle.y4m_io.specs.declared.fault.StreamFault.{StreamFault}
@@ -23,7 +22,8 @@ some_if : {T : Type 0} (test : Bool) (value : T) (P : T → Type 0) → (test �
 some_if true value P holds = holds refl
 some_if false value P holds = tt
 
-ok_if : {T E : Type 0} (test : Bool) (value : T) (fault : E) (P : T → Type 0) → (test ≡ true → P value) → IfOk (cond test (Ok value) (Err fault)) P
+ok_if : {T E : Type 0} (test : Bool) (value : T) (fault : E) (P : T → Type 0) → (test ≡ true → P value)
+    → IfOk (cond test (Ok value) (Err fault)) P
 ok_if true value fault P holds = holds refl
 ok_if false value fault P holds = tt
 
@@ -36,8 +36,8 @@ extent_of-limits : (text : List ℕ) → IfSome (extent_of text) IsExtent
 extent_of-limits text =
     let number = digits_value 10 text in
     some_if (is_numeral text && (nat_le 1 number && nat_le number 16384)) number IsExtent (λ passes.
-      let limits = second_so (is_numeral text) _ passes in
-      record { least = leb-true 1 number (first_so _ _ limits); most = leb-true number 16384 (second_so (nat_le 1 number) _ limits) })
+    let limits = second_so (is_numeral text) _ passes in
+    record { least = leb-true 1 number (first_so _ _ limits); most = leb-true number 16384 (second_so (nat_le 1 number) _ limits) })
 
 -- the size of a frame
 record IsFrameSize (size : ℕ × ℕ) : Type 0 where
@@ -50,27 +50,29 @@ sized-limits None height first second = tt
 sized-limits (Some width) None first second = tt
 sized-limits (Some width) (Some height) first second =
     ok_if (nat_le (width * height) 33554432) (width, height) BadSize IsFrameSize (λ passes.
-      record { width = first; height = second; area = leb-true (width * height) 33554432 passes })
+    record { width = first; height = second; area = leb-true (width * height) 33554432 passes })
 
 size_of-limits : (width height : Option (List ℕ)) → IfOk (size_of width height) IsFrameSize
 size_of-limits None height = tt
 size_of-limits (Some width) None = tt
-size_of-limits (Some width) (Some height) = sized-limits (extent_of width) (extent_of height) (extent_of-limits width) (extent_of-limits height)
+size_of-limits (Some width) (Some height) = sized-limits (extent_of width) (extent_of height) (extent_of-limits width)
+    (extent_of-limits height)
 
 -- what is found among elements that all pass a test passes it
 find-passes : {X : Type 0} (p q : X → Bool) (xs : List X) → list_all q xs ≡ true → IfSome (find p xs) (λ x. q x ≡ true)
 find-passes p q [] all = tt
 find-passes p q (x ∷ xs) all = elim (p x) as (λ b. IfSome (cond b (Some x) (find p xs)) (λ x'. q x' ≡ true)) [
-    true ↦ first_so _ _ all
+  | true ↦ first_so _ _ all
   | false ↦ find-passes p q xs (second_so (q x) _ all)
-  ]
+]
 
 -- each colour space can be written
 written : list_all (λ space. is_some (text_of_name space.name)) colour_spaces ≡ true
 unfolding colour_spaces text_of_name
 written = refl
 
-named : (result : Result ℕ FormatFault) (name : List ℕ) → lookup name ≡ result → is_some (text_of_name name) ≡ true → IfSome (result_ok result) (λ id. is_stream_format id ≡ true)
+named : (result : Result ℕ FormatFault) (name : List ℕ) → lookup name ≡ result → is_some (text_of_name name) ≡ true
+    → IfSome (result_ok result) (λ id. is_stream_format id ≡ true)
 named (Err fault) name is known = tt
 named (Ok id) name is known = ap (λ n. is_some (text_of_name n)) (lookup-Ok name id is).1 ∙ known
 
@@ -81,7 +83,8 @@ format_of_space (Some space) known = named (lookup space.name) space.name refl k
 
 pub format_of_text-stream : (text : List ℕ) → IfSome (format_of_text text) (λ id. is_stream_format id ≡ true)
 unfolding format_of_text
-format_of_text-stream text = format_of_space (space_with_text text) (find-passes _ (λ space. is_some (text_of_name space.name)) colour_spaces written)
+format_of_text-stream text = format_of_space (space_with_text text)
+    (find-passes _ (λ space. is_some (text_of_name space.name)) colour_spaces written)
 
 ok_from : (format : Option ℕ) (P : ℕ → Type 0) → IfSome format P → IfOk (ok_or format BadColour) P
 ok_from None P holds = tt
@@ -91,7 +94,8 @@ colour_of-stream : (text : Option (List ℕ)) → IfOk (colour_of text) (λ id. 
 colour_of-stream None = tt
 colour_of-stream (Some text) = ok_from (format_of_text text) (λ id. is_stream_format id ≡ true) (format_of_text-stream text)
 
-header_with-sound : (size : Result (ℕ × ℕ) StreamFault) (format : Result ℕ StreamFault) (tags : List (List ℕ)) → IfOk size IsFrameSize → IfOk format (λ id. is_stream_format id ≡ true)
+header_with-sound : (size : Result (ℕ × ℕ) StreamFault) (format : Result ℕ StreamFault) (tags : List (List ℕ)) → IfOk size IsFrameSize
+    → IfOk format (λ id. is_stream_format id ≡ true)
     → IfOk (header_with size format tags) IsSoundHeader
 header_with-sound (Err fault) format tags first second = tt
 header_with-sound (Ok size) (Err fault) tags first second = tt
@@ -107,9 +111,11 @@ header_with-sound (Ok size) (Ok format) tags first second = record {
 header_of-known_sound : (tags : List (List ℕ)) → IfOk (header_of tags) IsSoundHeader
 unfolding header_of
 header_of-known_sound tags =
-    elim (list_all is_known_tag tags) as (λ b. IfOk (cond b (header_with (size_of (text_of (letter "W") tags) (text_of (letter "H") tags)) (colour_of (text_of (letter "C") tags)) tags) (Err BadTag)) IsSoundHeader) [
-      true ↦ header_with-sound _ _ tags (size_of-limits (text_of (letter "W") tags) (text_of (letter "H") tags)) (colour_of-stream (text_of (letter "C") tags))
-    | false ↦ tt
+    elim (list_all is_known_tag tags) as (λ b. IfOk (cond b (header_with (size_of (text_of (letter "W") tags) (text_of (letter "H") tags))
+    (colour_of (text_of (letter "C") tags)) tags) (Err BadTag)) IsSoundHeader) [
+      | true ↦ header_with-sound _ _ tags (size_of-limits (text_of (letter "W") tags) (text_of (letter "H") tags))
+          (colour_of-stream (text_of (letter "C") tags))
+      | false ↦ tt
     ]
 
 -- every header is sound
@@ -118,7 +124,8 @@ header_of-sound tags header is = subst (λ r. IfOk r IsSoundHeader) is (header_o
 
 -- ---- the faults
 
-err_if : {T : Type 0} (test : Bool) (value : T) (fault : StreamFault) → IsHeaderFault fault → IfErr (cond test (Ok value) (Err fault)) IsHeaderFault
+err_if : {T : Type 0} (test : Bool) (value : T) (fault : StreamFault) → IsHeaderFault fault
+    → IfErr (cond test (Ok value) (Err fault)) IsHeaderFault
 err_if true value fault is = tt
 err_if false value fault is = is
 
@@ -136,7 +143,8 @@ colour_fault : (format : Option ℕ) → IfErr (ok_or format BadColour) IsHeader
 colour_fault None = tt
 colour_fault (Some format) = tt
 
-header_with-fault : (size : Result (ℕ × ℕ) StreamFault) (format : Result ℕ StreamFault) (tags : List (List ℕ)) → IfErr size IsHeaderFault → IfErr format IsHeaderFault
+header_with-fault : (size : Result (ℕ × ℕ) StreamFault) (format : Result ℕ StreamFault) (tags : List (List ℕ)) → IfErr size IsHeaderFault
+    → IfErr format IsHeaderFault
     → IfErr (header_with size format tags) IsHeaderFault
 header_with-fault (Err fault) format tags first second = first
 header_with-fault (Ok size) (Err fault) tags first second = second
@@ -145,9 +153,11 @@ header_with-fault (Ok size) (Ok format) tags first second = tt
 header_of-known_fault : (tags : List (List ℕ)) → IfErr (header_of tags) IsHeaderFault
 unfolding header_of
 header_of-known_fault tags =
-    elim (list_all is_known_tag tags) as (λ b. IfErr (cond b (header_with (size_of (text_of (letter "W") tags) (text_of (letter "H") tags)) (colour_of (text_of (letter "C") tags)) tags) (Err BadTag)) IsHeaderFault) [
-      true ↦ header_with-fault _ _ tags (size_of-fault (text_of (letter "W") tags) (text_of (letter "H") tags)) (colour_fault (option_and_then format_of_text (text_of (letter "C") tags)))
-    | false ↦ tt
+    elim (list_all is_known_tag tags) as (λ b. IfErr (cond b (header_with (size_of (text_of (letter "W") tags) (text_of (letter "H") tags))
+    (colour_of (text_of (letter "C") tags)) tags) (Err BadTag)) IsHeaderFault) [
+      | true ↦ header_with-fault _ _ tags (size_of-fault (text_of (letter "W") tags) (text_of (letter "H") tags))
+          (colour_fault (option_and_then format_of_text (text_of (letter "C") tags)))
+      | false ↦ tt
     ]
 
 -- the tags of a header have the faults of a header alone

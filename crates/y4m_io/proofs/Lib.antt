@@ -1,6 +1,8 @@
 pub mod LineExits
 pub mod LineFronts
 pub mod TagChains
+pub mod Examples
+pub mod LineShapes
 pub mod HeaderFacts
 pub mod LineCuts
 pub mod HeaderParts

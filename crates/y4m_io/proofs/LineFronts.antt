@@ -1,11 +1,10 @@
 -- Fronts of lines.
-use Rattle.std.proofs.Common.{◌≡◌, ℕ, zero, suc, ◌+◌, ◌<◌, ◌≤◌, Bool, true, false, ◌&&◌, ◌||◌, List, [], ◌∷◌, ◌++◌, length, take, get_or, refl, sym, ap, ◌∙◌, subst, arith, cond, ◌==◌, length-append, append-nil, append_assoc, inl, inr}
-use Rattle.std.specs.Prelude.{Result, Ok, Err, zip, nat_le, nat_eq}
+use Rattle.std.proofs.Common.{◌≡◌, ℕ, ◌<◌, ◌≤◌, Bool, true, false, ◌&&◌, ◌||◌, List, [], ◌∷◌, ◌++◌, length, get_or, refl, sym, ap, ◌∙◌, arith, ◌==◌, length-append, append-nil, append_assoc, inl, inr}
+use Rattle.std.specs.Prelude.{Ok, Err, nat_le}
 use Rattle.std.specs.Cmp.{first_so, second_so}
-use Rattle.std.specs.List.{list_any, list_all, before_first, position_or_len}
+use Rattle.std.specs.List.{list_any}
 use Rattle.std.proofs.Math.Numerals.{one-add}
 use Rattle.std.proofs.lemmas.List.{get_or_append_left}
-use Rattle.std.proofs.lemmas.List.Folds.{list_any-append}
 use Rattle.std.proofs.lemmas.Bool.{false_from_ne_true, cases_lt, le-leb, lt-leb, lt-ltb, le-ltb}
 use Rattle.std.proofs.lemmas.Bool.Decides.{nat_tests}
 use Rattle.y4m_io.specs.declared.fault.StreamFault.TheVariants.{LineTooLong, Truncated}
@@ -13,8 +12,8 @@ use Rattle.y4m_io.specs.declared.line.LineKind.{LineKind}
 use Rattle.y4m_io.specs.declared.line.LineKind.TheVariants.{Header, Frame}
 use Rattle.y4m_io.specs.Lines.{is_newline, line_of, line_cut, agrees}
 use Rattle.y4m_io.specs.Tags.{magic}
-use Rattle.y4m_io.specs.HeaderLine.{is_header_front, has_magic, ends_word}
-use Rattle.y4m_io.specs.FrameLine.{frame_word, has_frame_word}
+use Rattle.y4m_io.specs.HeaderLine.{has_magic, ends_word}
+use Rattle.y4m_io.specs.FrameLine.{frame_word}
 use Rattle.y4m_io.specs.LineKinds.{is_front, has_word, word_size, wrong_word, cut_off, line_in}
 
 or_first : (a b : Bool) → (a || b) ≡ false → a ≡ false
@@ -66,7 +65,8 @@ line_cut-short xs closed short =
 agrees-front : (word xs ys : List ℕ) → agrees word (xs ++ ys) ≡ true → agrees word xs ≡ true
 agrees-front [] xs ys same = refl
 agrees-front (letter ∷ word) [] ys same = refl
-agrees-front (letter ∷ word) (x ∷ xs) ys same = rw (first_so (x == letter) _ same) (agrees-front word xs ys (second_so (x == letter) _ same))
+agrees-front (letter ∷ word) (x ∷ xs) ys same = rw (first_so (x == letter) _ same)
+    (agrees-front word xs ys (second_so (x == letter) _ same))
 
 -- bytes behind a word do not matter
 agrees-append : (word xs ys : List ℕ) → length word ≤ length xs → agrees word (xs ++ ys) ≡ agrees word xs
@@ -75,7 +75,8 @@ agrees-append (letter ∷ word) [] ys long = absurd (omega arith)
 agrees-append (letter ∷ word) (x ∷ xs) ys long = ap (λ b. (x == letter) && b) (agrees-append word xs ys (omega arith))
 
 -- a byte that the word does not have stands behind the word
-agrees-behind : (word xs : List ℕ) (byte : ℕ) → list_any (λ letter. byte == letter) word ≡ false → agrees word (xs ++ byte ∷ []) ≡ true → length word ≤ length xs
+agrees-behind : (word xs : List ℕ) (byte : ℕ) → list_any (λ letter. byte == letter) word ≡ false → agrees word (xs ++ byte ∷ []) ≡ true
+    → length word ≤ length xs
 agrees-behind [] xs byte lacks same = omega arith
 agrees-behind (letter ∷ word) [] byte lacks same = cc (first_so (byte == letter) _ same, or_first (byte == letter) _ lacks)
 agrees-behind (letter ∷ word) (x ∷ xs) byte lacks same =
@@ -144,14 +145,16 @@ is_front-word Frame bytes same = same
 -- ---- where a read of the line ends
 
 -- at its newline
-pub line_in-whole : (kind : LineKind) (xs rest : List ℕ) → list_any is_newline xs ≡ false → length xs ≤ 1024 → is_front kind (xs ++ 10 ∷ []) ≡ true
+pub line_in-whole : (kind : LineKind) (xs rest : List ℕ) → list_any is_newline xs ≡ false → length xs ≤ 1024
+    → is_front kind (xs ++ 10 ∷ []) ≡ true
     → line_in kind (xs ++ 10 ∷ rest) ≡ Ok xs
 line_in-whole kind xs rest closed short same = rw (has_word-newline kind xs rest same) (line_cut-whole xs rest closed short)
 
 -- at the first byte that is wrong
 pub line_in-wrong : (kind : LineKind) (xs rest : List ℕ) → is_front kind xs ≡ false → line_in kind (xs ++ rest) ≡ Err (wrong_word kind)
 line_in-wrong kind xs rest differs =
-    let none : has_word kind (xs ++ rest) ≡ false = false_from_ne_true _ (λ same. cc (is_front-front kind xs rest (is_front-word kind (xs ++ rest) same))) in
+    let none : has_word kind (xs ++ rest) ≡ false = false_from_ne_true _
+    (λ same. cc (is_front-front kind xs rest (is_front-word kind (xs ++ rest) same))) in
     rw none refl
 
 -- at more bytes than a line has

@@ -1,14 +1,15 @@
 -- Looking up a row of the program's table of colour spaces.
-use Rattle.std.proofs.Common.{◌≡◌, Bool, true, false, List, [], ◌∷◌, map, cond, refl, sym, ap, ◌∙◌}
+use Rattle.std.proofs.Common.{◌≡◌, Bool, true, false, List, [], ◌∷◌, map, cond, refl, ap, ◌∙◌}
 use Rattle.std.specs.Prelude.{Option, None, Some, find}
 use Rattle.std.specs.Option.{option_map}
 
 find-map : {A B : Type 0} (f : A → B) (test : B → Bool) (xs : List A) → option_map f (find (λ x. test (f x)) xs) ≡ find test (map f xs)
 find-map f test [] = refl
-find-map f test (x ∷ xs) = elim (test (f x)) as (λ b. option_map f (cond b (Some x) (find (λ x. test (f x)) xs)) ≡ cond b (Some (f x)) (find test (map f xs))) [
-    true ↦ refl
-  | false ↦ find-map f test xs
-  ]
+find-map f test (x ∷ xs) = elim (test (f x)) as (λ b. option_map f (cond b (Some x) (find (λ x. test (f x)) xs)) ≡ cond b (Some (f x))
+    (find test (map f xs))) [
+      | true ↦ refl
+      | false ↦ find-map f test xs
+    ]
 
 option_map-map : {A B C : Type 0} (v : A → B) (f : B → C) (o : Option A) → option_map (λ x. f (v x)) o ≡ option_map f (option_map v o)
 option_map-map v f None = refl

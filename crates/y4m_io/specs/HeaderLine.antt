@@ -54,8 +54,8 @@ header_with (Ok size) (Ok format) tags = Ok (record {
 -- the header of these tags: an unknown tag is found first, then what is wrong with the size, then with the colour space
 unfoldable pub header_of : List (List ℕ) → Result Header StreamFault
 header_of tags =
-    if list_all is_known_tag tags then header_with (size_of (text_of (letter "W") tags) (text_of (letter "H") tags)) (colour_of (text_of (letter "C") tags)) tags
-    else Err BadTag
+    let size = size_of (text_of (letter "W") tags) (text_of (letter "H") tags) in
+    if list_all is_known_tag tags then header_with size (colour_of (text_of (letter "C") tags)) tags else Err BadTag
 
 -- the byte behind the first word of a line
 abbrev pub ends_word : ℕ → Bool

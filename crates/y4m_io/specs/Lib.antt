@@ -8,3 +8,4 @@ pub mod HeaderText
 pub mod Reading
 pub mod LineKinds
 pub mod Spaces
+pub mod Examples

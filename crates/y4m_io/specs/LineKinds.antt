@@ -46,7 +46,8 @@ word_size Frame = 5
 -- the bytes left began with the line that stands in the buffer's first bytes, and exactly the line was taken
 abbrev pub TakesLine : LineKind → Shown → Shown → List ℕ → ℕ → Type 0
 TakesLine kind old new buf size =
-    (word_size kind ≤ size) × (size ≤ 1024) × IfSome old.bytes (λ bytes. (line_in kind bytes ≡ Ok (take size buf)) × Takes old new (take (size + 1) bytes))
+    (word_size kind ≤ size) × (size ≤ 1024)
+    × IfSome old.bytes (λ bytes. (line_in kind bytes ≡ Ok (take size buf)) × Takes old new (take (size + 1) bytes))
 
 -- the faults that are found before the line is read to its end
 abbrev pub IsLineFault : LineKind → StreamFault → Type 0

@@ -10,7 +10,7 @@ use Rattle.y4m_io.specs.declared.fault.LineEnd.{LineEnd}
 use Rattle.y4m_io.specs.declared.fault.LineEnd.TheVariants as line
 use Rattle.y4m_io.specs.declared.header.Header.{Header}
 use Rattle.y4m_io.specs.Lines.{is_newline}
-use Rattle.y4m_io.specs.HeaderLine.{HeaderLine, header_cut}
+use Rattle.y4m_io.specs.HeaderLine.{header_cut}
 use Rattle.y4m_io.specs.FrameLine.{frame_line_cut}
 
 -- the fault of the stream that is answered, where one is
@@ -46,8 +46,18 @@ TakesOpen old new = (front : List ℕ) × (list_any is_newline front ≡ false) 
 -- the bytes left began with the line of this header, and exactly the line was taken
 abbrev pub TakesHeader : Shown → Shown → Header → Type 0
 TakesHeader old new header =
-    IfSome old.bytes (λ bytes. (size : ℕ) × (header_cut bytes ≡ Ok (record { header = header; size = size })) × Takes old new (take size bytes))
+    IfSome old.bytes (λ bytes.
+    (size : ℕ) × (header_cut bytes ≡ Ok (record { header = header; size = size })) × Takes old new (take size bytes))
+
+-- what the bytes left began with is no header, by this fault
+abbrev pub IsNoHeader : Shown → StreamFault → Type 0
+IsNoHeader old fault = IfSome old.bytes (λ bytes. header_cut bytes ≡ Err fault)
 
 -- the bytes left began with a frame line, and exactly the line was taken
 abbrev pub TakesFrameLine : Shown → Shown → Type 0
-TakesFrameLine old new = IfSome old.bytes (λ bytes. (size : ℕ) × (frame_line_cut bytes ≡ Ok (Some size)) × Takes old new (take size bytes))
+TakesFrameLine old new =
+    IfSome old.bytes (λ bytes. (size : ℕ) × (frame_line_cut bytes ≡ Ok (Some size)) × Takes old new (take size bytes))
+
+-- what the bytes left began with is no frame line, by this fault
+abbrev pub IsNoFrameLine : Shown → StreamFault → Type 0
+IsNoFrameLine old fault = IfSome old.bytes (λ bytes. frame_line_cut bytes ≡ Err fault)

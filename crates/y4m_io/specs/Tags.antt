@@ -19,9 +19,13 @@ is_space byte = byte == 32
 abbrev pub is_tag : List ℕ → Bool
 is_tag part = nat_lt 0 (length part)
 
--- the tags of a header line: the parts between spaces behind its first word, without the empty ones
+-- the parts of a text between its spaces, without the empty ones
+abbrev pub tags_in : List ℕ → List (List ℕ)
+tags_in text = filter is_tag (slice_split is_space text)
+
+-- the tags of a header line: those behind its first word
 abbrev pub tags_of : List ℕ → List (List ℕ)
-tags_of line = filter is_tag (slice_split is_space (drop (length magic) line))
+tags_of line = tags_in (drop (length magic) line)
 
 -- the code of a letter
 abbrev pub letter : String → ℕ
@@ -42,7 +46,9 @@ text_of code tags = option_map (drop 1) (last_or None (filter (has_letter code) 
 
 -- the range that a tag names
 abbrev pub range_named : List ℕ → Option Range
-range_named tag = if bytes_eq tag (codes "XCOLORRANGE=FULL") then Some Full else (if bytes_eq tag (codes "XCOLORRANGE=LIMITED") then Some Limited else None)
+range_named tag =
+    if bytes_eq tag (codes "XCOLORRANGE=FULL") then Some Full
+    else (if bytes_eq tag (codes "XCOLORRANGE=LIMITED") then Some Limited else None)
 
 -- the last of the ranges that the tags name
 abbrev pub range_of : List (List ℕ) → Option Range

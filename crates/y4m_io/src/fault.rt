@@ -7,7 +7,8 @@ use frac_math::OutOfMemory;
 /// What is wrong with the bytes of a stream.
 #[derive(Clone, Copy, Debug, PartialEq, Eq)]
 pub enum StreamFault {
-    /// The stream does not begin with `YUV4MPEG2` and then a space, a newline or the end of the input.
+    /// The stream does not begin with `YUV4MPEG2` and then a space, a newline or the end of the
+    /// input.
     NoMagic,
     /// A line has more than 1,024 bytes before its newline.
     LineTooLong,
@@ -15,7 +16,8 @@ pub enum StreamFault {
     BadTag,
     /// The header has no width or no height.
     NoSize,
-    /// The width or the height is not a number of 1 to 16,384, or their product is above 33,554,432.
+    /// The width or the height is not a number of 1 to 16,384, or their product is above
+    /// 33,554,432.
     BadSize,
     /// The header has no colour space, or none of the ten that are known.
     BadColour,

@@ -1,10 +1,9 @@
 // A header line: its tags, and what they say.
-ghost use Rattle.std.specs.Prelude.{◌≡◌, filter, option_copied, Ok, Err, IfSome, IfOk, IfErr, OnErr};
-ghost use Rattle.std.specs.List.{slice_split};
+ghost use Rattle.std.specs.Prelude.{◌≡◌, option_copied, Ok, Err, IfSome, IfOk, IfErr, OnErr};
 ghost use Rattle.pix_io.specs.Faults.{HasCause};
-ghost use Rattle.y4m_io.specs.Tags.{is_space, is_tag};
-ghost use Rattle.y4m_io.specs.HeaderLine.{colour_of, header_of, header_cut, IsHeaderFault, IsSoundHeader};
-ghost use Rattle.y4m_io.specs.Reading.{header_fault, header_reads, TakesFront, TakesOpen, TakesHeader};
+ghost use Rattle.y4m_io.specs.Tags.{tags_in};
+ghost use Rattle.y4m_io.specs.HeaderLine.{colour_of, header_of, IsHeaderFault, IsSoundHeader};
+ghost use Rattle.y4m_io.specs.Reading.{header_fault, header_reads, TakesFront, TakesOpen, TakesHeader, IsNoHeader};
 
 use crate::line::{LINE_SIZE, LineKind, read_line};
 use crate::size::size;
@@ -38,8 +37,9 @@ fn copied(alloc: Global, text: Option<&[u8]>) -> Result<Option<TagText>, OutOfMe
 
 // What the tags of a header line say. The line's first word is left out.
 fn header_of(alloc: Global, tags: &[u8]) -> Result<Header, HeaderEnd>
-    ensures header { IfOk result (λ header. header_of (filter is_tag (slice_split is_space tags.now)) ≡ Ok header) }
-    ensures fault { IfErr result (λ end. IfSome (header_fault end) (λ fault. header_of (filter is_tag (slice_split is_space tags.now)) ≡ Err fault)) }
+    ensures header { IfOk result (λ header. header_of (tags_in tags.now) ≡ Ok header) }
+    ensures fault { IfErr result (λ end. IfSome (header_fault end)
+        (λ fault. header_of (tags_in tags.now) ≡ Err fault)) }
     ensures reads { header_reads result ≡ Ok tt }
 {
     if !are_known(tags) {
@@ -58,19 +58,23 @@ fn header_of(alloc: Global, tags: &[u8]) -> Result<Header, HeaderEnd>
     })
 }
 
-/// Reads the header of a stream. Where it answers a header, exactly the header's line is taken, its newline with it; else a
-/// front of the bytes that were left, which after a failed read does not have the line's newline.
+/// Reads the header of a stream. Where it answers a header, exactly the header's line is taken,
+/// its newline with it; else a front of the bytes that were left, which after a failed read does
+/// not have the line's newline.
 ///
-/// What is wrong is found in this order: `NoMagic`, `LineTooLong`, `Truncated`, `BadTag`, `NoSize`, `BadSize`, `BadColour`.
-/// A line that begins wrongly is read to its first wrong byte at most. `ReadFault` comes only where the input's count of
-/// faults rises, and only the texts of the header take memory. The input is not read again after its end.
+/// What is wrong is found in this order: `NoMagic`, `LineTooLong`, `Truncated`, `BadTag`,
+/// `NoSize`, `BadSize`, `BadColour`. A line that begins wrongly is read to its first wrong byte.
+/// `ReadFault` comes only where the input's count of faults rises. Only the texts of the header
+/// take memory. The input is not read again after its end.
 pub fn read_header<In: Source>(alloc: Global, input: &mut In) -> Result<Header, HeaderEnd>
     ensures header { IfOk result (TakesHeader (In.shown input.old) (In.shown input.new)) }
     ensures sound { IfOk result IsSoundHeader }
-    ensures fault { IfErr result (λ end. IfSome (header_fault end) (λ fault. IfSome (In.shown input.old).bytes (λ bytes. header_cut bytes ≡ Err fault))) }
+    ensures fault { IfErr result (λ end. IfSome (header_fault end)
+        (IsNoHeader (In.shown input.old))) }
     ensures known { IfErr result (λ end. IfSome (header_fault end) IsHeaderFault) }
     ensures front { OnErr result (TakesFront (In.shown input.old) (In.shown input.new)) }
-    ensures read_fault { OnErr (header_reads result) (TakesOpen (In.shown input.old) (In.shown input.new)) }
+    ensures read_fault { OnErr (header_reads result)
+        (TakesOpen (In.shown input.old) (In.shown input.new)) }
     ensures cause { HasCause (In.shown input.old) (In.shown input.new) (header_reads result) }
 {
     let mut line = [0; LINE_SIZE];

@@ -67,21 +67,26 @@ fn cut_off(kind: LineKind, size: usize) -> StreamFault
     }
 }
 
-// Reads a line of this kind, which then stands at the front of `line` without its newline, and answers its size; none where
-// no byte was left. A line that begins wrongly is read no further than to the first byte that is wrong. After the end of
-// the input the source is not read again.
+// Reads a line of this kind, which then stands at the front of `line` without its newline, and
+// answers its size; none where no byte was left. A line that begins wrongly is read no further
+// than to the first byte that is wrong. After the end of the input the source is not read again:
+// each way out of the loop that follows a read of nothing returns.
 pub(crate) fn read_line<In: Source>(
     kind: LineKind,
     input: &mut In,
     line: &mut [u8],
 ) -> Result<Option<usize>, LineEnd>
     requires { length line.old ≡ LINE_SIZE }
-    ensures line { IfOk result (λ size. IfSome size (TakesLine kind (In.shown input.old) (In.shown input.new) line.new)) }
-    ensures end { IfOk result (λ size. IfNone size (Takes (In.shown input.old) (In.shown input.new) [] × HasEnded (In.shown input.new))) }
-    ensures fault { IfErr result (λ end. IfSome (line_fault end) (λ fault. IfSome (In.shown input.old).bytes (IsNoLine kind fault))) }
+    ensures line { IfOk result (λ size. IfSome size
+        (TakesLine kind (In.shown input.old) (In.shown input.new) line.new)) }
+    ensures end { IfOk result (λ size. IfNone size
+        (Takes (In.shown input.old) (In.shown input.new) [] × HasEnded (In.shown input.new))) }
+    ensures fault { IfErr result (λ end. IfSome (line_fault end)
+        (λ fault. IfSome (In.shown input.old).bytes (IsNoLine kind fault))) }
     ensures known { IfErr result (λ end. IfSome (line_fault end) (IsLineFault kind)) }
     ensures front { OnErr result (TakesFront (In.shown input.old) (In.shown input.new)) }
-    ensures read_fault { OnErr (line_reads result) (TakesOpen (In.shown input.old) (In.shown input.new)) }
+    ensures read_fault { OnErr (line_reads result)
+        (TakesOpen (In.shown input.old) (In.shown input.new)) }
     ensures cause { HasCause (In.shown input.old) (In.shown input.new) (line_reads result) }
 {
     let mut size = 0;

@@ -13,8 +13,8 @@ fn has_chroma(desc: &Desc) -> bool
     !desc.rgb && 3 <= desc.count
 }
 
-/// The range that a format is taken to have: limited for a format of luma and chroma other than yuvj444p, and full for any other
-/// (libavutil/pixfmt.h).
+/// The range that a format is taken to have: limited for a format of luma and chroma other than
+/// yuvj444p, and full for any other (libavutil/pixfmt.h).
 pub fn default_range(id: FormatId) -> Range
     ensures { result ≡ default_range id }
 {

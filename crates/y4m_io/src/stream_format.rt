@@ -44,9 +44,7 @@ fn spaces() -> &'static [Space]
 fn space_with_text(text: &[u8]) -> Option<&'static Space>
     ensures { option_map (λ space. space_of space.now) result ≡ space_with_text text.now }
 {
-    spaces()
-        .iter()
-        .find(|space| space.text.as_bytes() == text)
+    spaces().iter().find(|space| space.text.as_bytes() == text)
 }
 
 fn space_with_name(name: &str) -> Option<&'static Space>

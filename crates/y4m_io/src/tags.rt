@@ -1,7 +1,7 @@
 // The tags of a header line.
-ghost use Rattle.std.specs.Prelude.{◌≡◌, filter, option_copied};
-ghost use Rattle.std.specs.List.{slice_split, list_all};
-ghost use Rattle.y4m_io.specs.Tags.{is_space, is_tag, has_letter, is_known_tag, text_of, range_named, range_of};
+ghost use Rattle.std.specs.Prelude.{◌≡◌, option_copied};
+ghost use Rattle.std.specs.List.{list_all};
+ghost use Rattle.y4m_io.specs.Tags.{tags_in, has_letter, is_known_tag, text_of, range_named, range_of};
 
 use colour_matrix::Range;
 
@@ -37,7 +37,7 @@ fn range_named(tag: &[u8]) -> Option<Range>
 
 // Whether each tag between the spaces begins with a letter that is known.
 pub(crate) fn are_known(tags: &[u8]) -> bool
-    ensures { result ≡ list_all is_known_tag (filter is_tag (slice_split is_space tags.now)) }
+    ensures { result ≡ list_all is_known_tag (tags_in tags.now) }
 {
     tags.split(|byte| *byte == b' ')
         .filter(|tag| !tag.is_empty())
@@ -46,7 +46,7 @@ pub(crate) fn are_known(tags: &[u8]) -> bool
 
 // The text behind the letter of the last tag that has it.
 pub(crate) fn last_text(tags: &[u8], letter: u8) -> Option<&[u8]>
-    ensures { option_copied result ≡ text_of letter (filter is_tag (slice_split is_space tags.now)) }
+    ensures { option_copied result ≡ text_of letter (tags_in tags.now) }
 {
     let tag = tags
         .split(|byte| *byte == b' ')
@@ -58,7 +58,7 @@ pub(crate) fn last_text(tags: &[u8], letter: u8) -> Option<&[u8]>
 
 // The last of the ranges that the tags name.
 pub(crate) fn last_range(tags: &[u8]) -> Option<Range>
-    ensures { result ≡ range_of (filter is_tag (slice_split is_space tags.now)) }
+    ensures { result ≡ range_of (tags_in tags.now) }
 {
     tags.split(|byte| *byte == b' ')
         .filter(|tag| !tag.is_empty())

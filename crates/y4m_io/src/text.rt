@@ -64,8 +64,8 @@ fn append(text: &mut Vec<u8>, name: &[u8], value: &[u8]) -> Result<(), OutOfMemo
     Ok(())
 }
 
-/// The line of a header, with its newline. A text that is not there is written as 25:1, p or 0:0, and a range that is not
-/// there as the format's default. Its memory is taken at once.
+/// The line of a header, with its newline. A text that is not there is written as 25:1, p or 0:0,
+/// and a range that is not there as the format's default. Its memory is taken at once.
 pub fn header_text(alloc: Global, header: &Header) -> Result<Vec<u8>, OutOfMemory>
     requires { is_stream_format header.now.format ≡ true }
     ensures { IfOk result (λ text. text.items ≡ header_text header.now) }
@@ -80,7 +80,11 @@ pub fn header_text(alloc: Global, header: &Header) -> Result<Vec<u8>, OutOfMemor
     let mut width = Buffer::new();
     let mut height = Buffer::new();
     let mut text = Vec::with_capacity(alloc, size)?;
-    append(&mut text, b"YUV4MPEG2 W", width.format(header.width).as_bytes())?;
+    append(
+        &mut text,
+        b"YUV4MPEG2 W",
+        width.format(header.width).as_bytes(),
+    )?;
     append(&mut text, b" H", height.format(header.height).as_bytes())?;
     append(&mut text, b" F", rate)?;
     append(&mut text, b" I", interlace)?;

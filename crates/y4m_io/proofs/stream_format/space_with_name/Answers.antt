@@ -10,5 +10,7 @@ use Rattle.y4m_io.proofs.SpaceRows.{found_row}
 use Rattle.y4m_io.proofs.stream_format.space_with_name.Goals as goal
 
 pub returns : goal.returns
-returns c = found_row _ space_of (λ (space : ColourSpace). bytes_eq space.name c.args.name.now) c.find.result c.spaces.result.now colour_spaces
-    (find_from_yields_List (λ (row : Space). bytes_eq row.name.now c.args.name.now) _ _ _ c.find.ensures.ran (YieldsList-from_slice c.spaces.result.now c.iter.ensures.rest) (λ x r q k. search (rules, tests))) c.spaces.ensures
+returns c = found_row _ space_of (λ (space : ColourSpace). bytes_eq space.name c.args.name.now) c.find.result c.spaces.result.now
+    colour_spaces
+    (find_from_yields_List (λ (row : Space). bytes_eq row.name.now c.args.name.now) _ _ _ c.find.ensures.ran
+    (YieldsList-from_slice c.spaces.result.now c.iter.ensures.rest) (λ x r q k. search (rules, tests))) c.spaces.ensures

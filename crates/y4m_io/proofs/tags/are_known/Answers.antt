@@ -9,4 +9,5 @@ use Rattle.y4m_io.proofs.tags.are_known.Goals as goal
 pub returns : goal.returns
 returns c = all_from_yields_List is_known_tag _ _ _ c.all.ensures.ran
     (YieldsList-from_filter _ is_tag (YieldsList-at c.filter.ensures.source
-    (YieldsList-from_slice_split _ is_space c.args.tags.now c.split.ensures.rest c.split.ensures.done c.split.ensures.closure (λ x r q k. search (rules, tests)))) c.filter.ensures.closure (λ x r q k. search (rules, tests))) (λ x r q k. search (rules, tests))
+    (YieldsList-from_slice_split _ is_space c.args.tags.now c.split.ensures.rest c.split.ensures.done c.split.ensures.closure
+    (λ x r q k. search (rules, tests)))) c.filter.ensures.closure (λ x r q k. search (rules, tests))) (λ x r q k. search (rules, tests))

@@ -10,4 +10,6 @@ pub returns : goal.returns
 returns c = sym (option_map_same c.last.result) ∙ last_from_yields_List c.last.result c.last.ensures.ran
     (YieldsList-from_filter_map _ range_named (YieldsList-at c.filter_map.ensures.source
     (YieldsList-from_filter _ is_tag (YieldsList-at c.filter.ensures.source
-    (YieldsList-from_slice_split _ is_space c.args.tags.now c.split.ensures.rest c.split.ensures.done c.split.ensures.closure (λ x r q k. search (rules, tests)))) c.filter.ensures.closure (λ x r q k. search (rules, tests)))) c.filter_map.ensures.closure (λ x r q k. search (rules, tests)))
+    (YieldsList-from_slice_split _ is_space c.args.tags.now c.split.ensures.rest c.split.ensures.done c.split.ensures.closure
+    (λ x r q k. search (rules, tests)))) c.filter.ensures.closure (λ x r q k. search (rules, tests)))) c.filter_map.ensures.closure
+    (λ x r q k. search (rules, tests)))

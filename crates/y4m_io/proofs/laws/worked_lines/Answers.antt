@@ -1,0 +1,5 @@
+use Rattle.y4m_io.proofs.Examples as examples
+use Rattle.y4m_io.proofs.laws.worked_lines.Goals as goal
+
+pub returns : goal.returns
+returns c = examples.worked_lines
