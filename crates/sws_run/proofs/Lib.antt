@@ -1,6 +1,8 @@
+pub mod Endings
 pub mod FormatLines
 pub mod Fronts
 pub mod Last
+pub mod Lifts
 pub mod Parts
 pub mod Places
 pub mod Runs

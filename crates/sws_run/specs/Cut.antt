@@ -119,6 +119,8 @@ abbrev pub header_size : Option HeaderLine → ℕ
 header_size None = 0
 header_size (Some line) = line.size
 
--- how many frames lie wholly in the first n bytes of the input
+-- how many frames lie wholly in the first n bytes of the input: none before its header does
 abbrev pub frames_within : Cut → ℕ → ℕ
-frames_within input n = whole_within (λ frame. frame.size) (n - header_size input.header) input.frames
+frames_within input n =
+    let header = header_size input.header in
+    if nat_le header n then whole_within (λ frame. frame.size) (n - header) input.frames else 0

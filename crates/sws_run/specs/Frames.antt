@@ -1,16 +1,25 @@
 -- The frames of an input one after the other: what reading one takes, and what a run over all of them promises.
-use Rattle.std.specs.Prelude.{◌≡◌, ◌<◌, ◌≤◌, ℕ, ◌++◌, List, [], length, take, drop, map, Option, None, Some, IfSome, if◌then◌else◌, Bool}
+use Rattle.std.specs.Prelude.{◌≡◌, ◌<◌, ◌≤◌, ℕ, ◌++◌, List, [], length, take, drop, map, Option, None, Some, Result, Ok, Err, IfSome, if◌then◌else◌, Bool}
 use Rattle.std.specs.List.{concat}
 use Rattle.pix_io.specs.Shown.{Shown}
 use Rattle.pix_io.specs.Faults.{Rose}
 use Rattle.pix_io.specs.Streams.{Writes, HasEnded}
 use Rattle.pix_meaning.specs.Target.{target_frame}
+use Rattle.desc_table.specs.Format.{format_count}
 use Rattle.sws_words.specs.declared.task.Form.{Form}
+use Rattle.sws_words.specs.Task.{IsFrame}
+use Rattle.y4m_io.specs.declared.fault.StreamFault.{StreamFault}
+use Rattle.y4m_io.specs.declared.header.Header.{Header}
+use Rattle.y4m_io.specs.HeaderLine.{HeaderLine}
 use Rattle.sws_run.specs.declared.ended.Ended.{Ended}
 use Rattle.sws_run.specs.declared.frame.Next.{Next}
 use Rattle.sws_run.specs.declared.frame.Next.TheVariants as next
+use Rattle.sws_run.specs.declared.request.Input.{Input}
+use Rattle.sws_run.specs.declared.request.Conversion.{Conversion}
 use Rattle.sws_run.specs.declared.run.Converter.{Converter}
-use Rattle.sws_run.specs.Cut.{Frame, Frames, Piece, Nothing, Whole, Faulty, End, Clean, TooMany, piece_cut, frames_cut, most_frames, whole_within}
+use Rattle.sws_run.specs.Request.{form_of}
+use Rattle.sws_run.specs.Sides.{pair_of}
+use Rattle.sws_run.specs.Cut.{Frame, Frames, Piece, Nothing, Whole, Faulty, End, Clean, TooMany, header_line_cut, piece_cut, frames_cut, most_frames, whole_within}
 use Rattle.sws_run.specs.Ending.{IsDecided, CanEnd, IfDone, IfReadFault, IfWriteFault}
 use Rattle.sws_run.specs.Output.{ending_at, front_in}
 
@@ -50,6 +59,35 @@ ReadsNext form old new frame next.End = IfSome old.bytes (λ bytes. bytes ≡ []
 -- whether the bytes are at their end
 abbrev pub end_if : Bool → End
 end_if ended = if ended then Clean else TooMany
+
+-- ---- the header
+
+-- the input began with this header, and exactly its line was taken
+abbrev pub TakesHeader : Input → Header → List ℕ → List ℕ → Type 0
+TakesHeader input header bytes rest =
+    (size : ℕ) × (header_line_cut input bytes ≡ Ok (record { header = header; size = size })) × IsBehind size bytes rest
+
+-- n bytes are fewer than the header's line has
+abbrev pub IsShortOf : ℕ → Result HeaderLine StreamFault → Type 0
+IsShortOf n (Ok line) = n < line.size
+IsShortOf n (Err fault) = Unit {0}
+
+-- fewer bytes were taken than the header's line has
+abbrev pub TakesHeaderPart : Input → List ℕ → List ℕ → Type 0
+TakesHeaderPart input bytes rest = (n : ℕ) × IsBehind n bytes rest × IsShortOf n (header_line_cut input bytes)
+
+-- what holds of every header: a format of the table, and a frame's size
+pub record IsSoundOpening (header : Header) : Type 0 where
+  pub format : header.format < format_count
+  pub frame : IsFrame header.width header.height
+
+-- what is made for a stream of a conversion, once its header is known
+pub record IsConverterOf (conversion : Conversion) (header : Header) (converter : Converter) : Type 0 where
+  pub pair : converter.plan.pair ≡ pair_of conversion header
+  pub width : converter.width ≡ header.width
+  pub height : converter.height ≡ header.height
+  pub source_form : converter.source_form ≡ form_of conversion.input
+  pub target_form : converter.target_form ≡ conversion.target_form
 
 -- ---- all frames
 

@@ -87,9 +87,9 @@ text_after output k = output.header ++ concat (take k output.frames)
 abbrev pub text_of : Output → List ℕ
 text_of output = output.header ++ concat output.frames
 
--- how many frames lie wholly in the first n bytes
+-- how many frames lie wholly in the first n bytes: none before the header does
 abbrev pub frames_in : Output → ℕ → ℕ
-frames_in output n = whole_within length (n - length output.header) output.frames
+frames_in output n = if nat_le (length output.header) n then whole_within length (n - length output.header) output.frames else 0
 
 -- what is written for the first n bytes of the input: nothing before the input's header is whole, and then a text for each whole frame
 abbrev pub text_for : Cut → Output → ℕ → List ℕ

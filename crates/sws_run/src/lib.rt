@@ -1,11 +1,16 @@
 //! The converter's run, from the words and bytes in to the bytes out.
 #![tactic(auto)]
 
+mod convert;
 mod ended;
 mod format_list;
 mod frame;
 mod notes_line;
+mod opening;
 mod request;
 mod run;
+mod sides;
+mod top;
 
 pub use ended::{Ended, SideName};
+pub use top::{Gate, OpenGate, run_sws};

@@ -1,4 +1,4 @@
-use Rattle.std.proofs.Common.{◌≡◌, ◌<◌, ◌++◌, List, ℕ, length, take, [], ap, arith, length-take-le}
+use Rattle.std.proofs.Common.{◌≡◌, ◌<◌, ◌++◌, List, ℕ, length, take, [], refl, ap, arith, length-take-le}
 use Rattle.sws_words.specs.declared.task.Form.TheVariants.{Y4m}
 use Rattle.y4m_io.specs.declared.fault.FrameLine.{FrameLine}
 use Rattle.y4m_io.specs.declared.fault.StreamFault.TheVariants.{Truncated}
@@ -25,7 +25,7 @@ returns-in-Ok-Whole-clause-next g c =
     let line = rw c.in-Ok-Frame.field-0-is at c.in-Ok-Frame.ensures.line in
     let taken = rw c.in-Ok-Whole.field-0-is at c.in-Ok-Whole.ensures.taken in
     told_then old.bytes mid.bytes new.bytes HasLine (λ x y. x ≡ frame ++ y) (TakesFrame Y4m frame)
-    (λ x y z l e. whole_behind Y4m l.size x y z frame l.is l.behind e) (line_told old mid line) (told_takes mid new frame taken)
+    (λ x y z l e. whole_behind Y4m l.size x y z frame l.is l.behind e) (line_told old mid (line refl)) (told_takes mid new frame taken)
 
 pub returns-in-Ok-End-read_whole-clause-fault : goal.returns-in-Ok-End-read_whole-clause-fault
 returns-in-Ok-End-read_whole-clause-fault g c =
@@ -36,7 +36,7 @@ returns-in-Ok-End-read_whole-clause-fault g c =
     let line = rw c.in-Ok-Frame.field-0-is at c.in-Ok-Frame.ensures.line in
     let taken = rw c.in-Ok-End-read_whole.field-0-is at c.in-Ok-End-read_whole.ensures.taken in
     told_now old.bytes mid.bytes HasLine (λ y. y ≡ []) (λ x. piece_cut Y4m (length frame) x ≡ Faulty Truncated)
-    (λ x y l e. short_behind Y4m l.size (length frame) x y l.is l.behind (omega (arith, ap length e))) (line_told old mid line) (takes_all mid new [] taken.0 taken.1)
+    (λ x y l e. short_behind Y4m l.size (length frame) x y l.is l.behind (omega (arith, ap length e))) (line_told old mid (line refl)) (takes_all mid new [] taken.0 taken.1)
 
 pub returns-in-Ok-Short-clause-fault : goal.returns-in-Ok-Short-clause-fault
 returns-in-Ok-Short-clause-fault g c =
@@ -51,7 +51,7 @@ returns-in-Ok-Short-clause-fault g c =
     let small : m < length frame = range.1 in
     let long : length (take m frame) ≡ m = length-take-le m frame (omega (arith, small)) in
     told_now old.bytes mid.bytes HasLine (λ y. y ≡ take m frame) (λ x. piece_cut Y4m (length frame) x ≡ Faulty Truncated)
-    (λ x y l e. short_behind Y4m l.size (length frame) x y l.is l.behind (omega (arith, ap length e, long, small))) (line_told old mid line)
+    (λ x y l e. short_behind Y4m l.size (length frame) x y l.is l.behind (omega (arith, ap length e, long, small))) (line_told old mid (line refl))
     (takes_all mid new (take m frame) taken.0 taken.1)
 
 pub returns-in-Err-read_whole-clause-read_fault : goal.returns-in-Err-read_whole-clause-read_fault
@@ -66,4 +66,4 @@ returns-in-Err-read_whole-clause-read_fault g c =
     let small : n < length frame = part.1 in
     let long : length (take n frame) ≡ n = length-take-le n frame (omega (arith, small)) in
     told_then old.bytes mid.bytes new.bytes HasLine (λ x y. x ≡ take n frame ++ y) (TakesPiece Y4m (length frame))
-    (λ x y z l e. part_behind Y4m l.size n x y z (take n frame) (length frame) l.is l.behind e long small) (line_told old mid line) (told_takes mid new (take n frame) part.2)
+    (λ x y z l e. part_behind Y4m l.size n x y z (take n frame) (length frame) l.is l.behind e long small) (line_told old mid (line refl)) (told_takes mid new (take n frame) part.2)

@@ -1,0 +1,93 @@
+// The run of the program, from its words to its ending.
+ghost use Rattle.std.specs.Prelude.{◌≡◌, map, string_bytes, Ok, Err};
+ghost use Rattle.sws_run.specs.Request.{asked_by};
+ghost use Rattle.sws_run.specs.Run.{GivesAnswer, GivesReadFault, GivesWriteFault, GivesOutOfMemory, GivesNotes, IsComplete};
+
+use crate::Ended;
+use crate::convert::convert;
+use crate::format_list::list_text;
+use crate::notes_line::notes_line;
+use crate::request::{Request, request_of};
+use pix_io::{Sink, Source, write_all};
+use std::alloc::Global;
+use std::thread::Threads;
+use sws_words::{WordsEnd, read_words};
+
+/// What a worker passes after each claim of a slice.
+pub trait Gate: Sync {}
+
+/// The gate of the program, which lets every worker pass.
+#[derive(Clone, Copy, Debug)]
+pub struct OpenGate;
+
+impl Gate for OpenGate {}
+
+// Writes the list of formats.
+fn list<Out: Sink>(alloc: Global, output: &mut Out) -> Ended {
+    let Ok(text) = list_text(alloc) else {
+        return Ended::OutOfMemory { frames: 0 };
+    };
+    match write_all(output, text.as_bytes()) {
+        Ok(()) => Ended::Done { frames: 0 },
+        Err(_) => Ended::WriteFault { frames: 0 },
+    }
+}
+
+// Does what the words ask for.
+fn run_words<In: Source, Out: Sink>(
+    alloc: Global,
+    words: &[String],
+    input: &mut In,
+    output: &mut Out,
+) -> Ended
+    ensures answer { GivesAnswer (asked_by (map string_bytes words.now)) (In.shown input.old) (In.shown input.new) (Out.shown output.old) (Out.shown output.new) result }
+    ensures read_fault { GivesReadFault (asked_by (map string_bytes words.now)) (In.shown input.old) (In.shown input.new) (Out.shown output.old) (Out.shown output.new) result }
+    ensures write_fault { GivesWriteFault (asked_by (map string_bytes words.now)) (In.shown input.old) (In.shown input.new) (Out.shown output.old) (Out.shown output.new) result }
+    ensures memory { GivesOutOfMemory (asked_by (map string_bytes words.now)) (In.shown input.old) (In.shown input.new) (Out.shown output.old) (Out.shown output.new) result }
+    ensures complete { IsComplete (In.shown input.old) (In.shown input.new) (Out.shown output.old) (Out.shown output.new) result }
+{
+    let task = match read_words(alloc, words) {
+        Ok(task) => task,
+        Err(WordsEnd::Usage(fault)) => return Ended::Usage(fault),
+        Err(WordsEnd::OutOfMemory) => return Ended::OutOfMemory { frames: 0 },
+    };
+    match request_of(&task) {
+        Ok(Request::Convert(conversion)) => convert(alloc, &conversion, input, output),
+        Ok(Request::List) => list(alloc, output),
+        Err(refusal) => refusal,
+    }
+}
+
+/// Runs the converter on the words after the program's name: converts a stream of frames from the input to the output, or
+/// writes the list of formats. The line of the ending is written to `notes`, whose faults change nothing else.
+///
+/// The six clauses are records in `specs/Run.antt`.
+pub fn run_sws<R: Threads + Sync, In: Source, Out: Sink, Notes: Sink, G: Gate>(
+    _rt: &R,
+    alloc: Global,
+    words: &[String],
+    input: &mut In,
+    output: &mut Out,
+    notes: &mut Notes,
+    _gate: &G,
+) -> Ended
+    ensures answer { GivesAnswer (asked_by (map string_bytes words.now)) (In.shown input.old) (In.shown input.new) (Out.shown output.old) (Out.shown output.new) result }
+    ensures read_fault { GivesReadFault (asked_by (map string_bytes words.now)) (In.shown input.old) (In.shown input.new) (Out.shown output.old) (Out.shown output.new) result }
+    ensures write_fault { GivesWriteFault (asked_by (map string_bytes words.now)) (In.shown input.old) (In.shown input.new) (Out.shown output.old) (Out.shown output.new) result }
+    ensures memory { GivesOutOfMemory (asked_by (map string_bytes words.now)) (In.shown input.old) (In.shown input.new) (Out.shown output.old) (Out.shown output.new) result }
+    ensures notes { GivesNotes (Notes.shown notes.old) (Notes.shown notes.new) result }
+    ensures complete { IsComplete (In.shown input.old) (In.shown input.new) (Out.shown output.old) (Out.shown output.new) result }
+{
+    let ended = run_words(alloc, words, input, output);
+    write_notes(notes, &ended);
+    ended
+}
+
+// Writes the line of an ending. That it fails changes nothing else.
+fn write_notes<Notes: Sink>(notes: &mut Notes, ended: &Ended)
+    ensures { GivesNotes (Notes.shown notes.old) (Notes.shown notes.new) ended.now }
+{
+    let mut room = [0; 128];
+    let line = notes_line(ended, &mut room);
+    let _written = write_all(notes, line);
+}
