@@ -10,14 +10,14 @@ use Rattle.colour_matrix.specs.declared.matrix.Matrix.{Matrix}
 use Rattle.colour_matrix.proofs.Parts.{inverses}
 use Rattle.colour_matrix.proofs.Rows.{same_values}
 
--- over any fractions: q, r, b, the values, then iq for 1/q, iqg for 1/(q g) and so on
+-- over any fractions q, r, b and values, where each name with an i before it is the inverse: iq of q, iqg of q g
 luma_back : (q r b y u t iq iqg : ℚ) → q *ℚ iq ≡ nat 1 → q *ℚ (q -ℚ r -ℚ b) *ℚ iqg ≡ nat 1
     → (r *ℚ (y +ℚ nat 2 *ℚ (q -ℚ r) *ℚ iq *ℚ t)
     +ℚ (q -ℚ r -ℚ b) *ℚ (y -ℚ nat 2 *ℚ b *ℚ (q -ℚ b) *ℚ iqg *ℚ u -ℚ nat 2 *ℚ r *ℚ (q -ℚ r) *ℚ iqg *ℚ t)
     +ℚ b *ℚ (y +ℚ nat 2 *ℚ (q -ℚ b) *ℚ iq *ℚ u)) *ℚ iq ≡ y
 luma_back q r b y u t iq iqg h g =
-    let Q = var 0 in let R = var 1 in let B = var 2 in let Y = var 3 in let U = var 4 in let T = var 5 in let IQ = var 6 in let IQG =
-    var 7 in
+    let Q = var 0 in let R = var 1 in let B = var 2 in let Y = var 3 in let U = var 4 in let T = var 5 in
+    let IQ = var 6 in let IQG = var 7 in
     let G = Q ⊖ R ⊖ B in
     let W = num (pos 2) ⊗ R ⊗ (Q ⊖ R) ⊗ T ⊕ num (pos 2) ⊗ B ⊗ (Q ⊖ B) ⊗ U in
     ring_from fractions (q ∷ r ∷ b ∷ y ∷ u ∷ t ∷ iq ∷ iqg ∷ [])

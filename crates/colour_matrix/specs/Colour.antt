@@ -4,7 +4,7 @@ use Rattle.frac_math.specs.Fraction.{ℚ, nat, ◌*ℚ◌, ◌+ℚ◌, ◌-ℚ�
 use Rattle.colour_matrix.specs.Values.{Values}
 use Rattle.colour_matrix.specs.declared.matrix.Matrix.{Matrix}
 
--- the parts of green
+-- the parts of green: what red and blue leave of all
 abbrev pub green_of : Matrix → ℚ
 green_of m = nat m.q -ℚ nat m.r -ℚ nat m.b
 

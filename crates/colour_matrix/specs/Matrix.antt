@@ -11,22 +11,27 @@ pub record IsMatrix (m : Matrix) : Type 0 where
   pub green : m.r + m.b < m.q
   pub parts : m.q ≤ 16777216
 
+-- the matrix of three numbers of parts
 abbrev pub of_parts : ℕ → ℕ → ℕ → Matrix
 of_parts q r b = record { q = q; r = r; b = b }
 
--- the matrices that have names (K_R and K_B of table 4 of ITU-T H.273)
+-- K_R = 0.299 and K_B = 0.114 (ITU-T H.273 table 4, MatrixCoefficients 5 and 6)
 abbrev pub bt601 : Matrix
 bt601 = of_parts 1000 299 114
 
+-- K_R = 0.2126 and K_B = 0.0722 (MatrixCoefficients 1)
 abbrev pub bt709 : Matrix
 bt709 = of_parts 10000 2126 722
 
+-- K_R = 0.2627 and K_B = 0.0593 (MatrixCoefficients 9)
 abbrev pub bt2020 : Matrix
 bt2020 = of_parts 10000 2627 593
 
+-- K_R = 0.212 and K_B = 0.087 (MatrixCoefficients 7)
 abbrev pub smpte240m : Matrix
 smpte240m = of_parts 1000 212 87
 
+-- K_R = 0.30 and K_B = 0.11 (MatrixCoefficients 4)
 abbrev pub fcc : Matrix
 fcc = of_parts 100 30 11
 

@@ -16,10 +16,11 @@ value_at v (suc zero) = v.second
 value_at v (suc (suc zero)) = v.third
 value_at v (suc (suc (suc j))) = v.fourth
 
--- coefficient j of a row, and row i
+-- coefficient j of a row
 abbrev pub coefficient : List ℚ → ℕ → ℚ
 coefficient row j = slice_index_or row j (nat 0)
 
+-- row i of some rows
 abbrev pub row_at : List (List ℚ) → ℕ → List ℚ
 row_at rows i = slice_index_or rows i []
 

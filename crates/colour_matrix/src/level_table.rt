@@ -23,6 +23,7 @@ pub fn levels(class: Class, depth: u8, range: Range) -> Levels
     }
 }
 
+/// The difference of codes by which a value rises by 1.
 fn scale_of(class: Class, depth: u8, range: Range) -> Frac
     requires some_depth { 1 ≤ depth }
     requires greatest_depth { depth ≤ 16 }
@@ -35,6 +36,7 @@ fn scale_of(class: Class, depth: u8, range: Range) -> Frac
     }
 }
 
+/// The code that stands for 0.
 fn base_of(class: Class, depth: u8, range: Range) -> Frac
     requires some_depth { 1 ≤ depth }
     requires greatest_depth { depth ≤ 16 }
@@ -48,7 +50,7 @@ fn base_of(class: Class, depth: u8, range: Range) -> Frac
     }
 }
 
-// A code at 8 bits, put at `depth` bits: 2^(depth - 8) * code, a fraction below 8 bits.
+/// A code at 8 bits, put at `depth` bits: 2^(depth - 8) * code, a fraction below 8 bits.
 fn scaled(code: u8, depth: u8) -> Frac
     requires { depth ≤ 16 }
     ensures { result ≡ scaled_to depth code }
@@ -56,6 +58,7 @@ fn scaled(code: u8, depth: u8) -> Frac
     ratio(power(depth) * u64::from(code), 256)
 }
 
+/// 2^exponent
 fn power(exponent: u8) -> u64
     requires { exponent ≤ 16 }
     ensures { result ≡ 2 ^ exponent }

@@ -7,9 +7,9 @@ ghost use Rattle.colour_matrix.specs.Colour.{to_rgb, from_rgb, to_rgb_rows, from
 use crate::ratio::{negative_ratio, ratio, whole};
 use frac_math::Frac;
 
-/// A matrix: of `q` parts of luma `r` are red, `b` are blue, and the rest is green. It is meant
-/// with `r >= 1`, `b >= 1`
-/// and `r + b < q <= 16777216`. In the words of ITU-T H.273 section 8.3 K_R is r/q and K_B is b/q.
+/// A matrix: of `q` parts of luma `r` are red, `b` are blue, and the rest is green. Its bounds are
+/// `r >= 1`, `b >= 1` and `r + b < q <= 16777216`. In the words of ITU-T H.273 section 8.3 K_R is
+/// r/q and K_B is b/q.
 #[derive(Clone, Copy, Debug, PartialEq, Eq)]
 pub struct Matrix {
     pub q: u32,
@@ -17,7 +17,11 @@ pub struct Matrix {
     pub b: u32,
 }
 
-/// The matrix of a name: bt601, bt709, bt2020, smpte240m or fcc. None for any other name.
+/// The matrix of a name: bt601, bt709, bt2020, smpte240m or fcc, byte for byte; none for any other
+/// name.
+///
+/// The parts are K_R and K_B of ITU-T H.273 table 4, as whole numbers over their common
+/// denominator: MatrixCoefficients 6 (and 5), 1, 9, 7 and 4. Each is within the bounds of `Matrix`.
 pub fn named(name: &str) -> Option<Matrix>
     ensures value { result ≡ matrix_named name.now }
     ensures sound { IfSome result IsMatrix }
@@ -38,7 +42,12 @@ fn of_parts(q: u32, r: u32, b: u32) -> Matrix
     Matrix { q, r, b }
 }
 
-/// The coefficients by which luma and chroma give red, green and blue: rows R, G, B over Y, U, V.
+/// The coefficients by which luma and chroma give red, green and blue: rows R, G, B over Y, U, V,
+/// each an exact fraction.
+///
+/// `m` has to be within the bounds of `Matrix`. The values are those of ITU-T H.273 section 8.3,
+/// where E'_Y, E'_R, E'_G and E'_B go from 0 to 1, and U and V, its E'_PB and E'_PR, from -1/2 to
+/// 1/2. These are its equations of the non-constant luminance, solved for red, green and blue.
 pub fn to_rgb(m: &Matrix) -> [[Frac; 3]; 3]
     requires { IsMatrix m.now }
     ensures coefficients { result ≡ to_rgb_rows m.now }
@@ -63,7 +72,11 @@ pub fn to_rgb(m: &Matrix) -> [[Frac; 3]; 3]
     ]
 }
 
-/// The coefficients by which red, green and blue give luma and chroma: rows Y, U, V over R, G, B.
+/// The coefficients by which red, green and blue give luma and chroma: rows Y, U, V over R, G, B,
+/// each an exact fraction.
+///
+/// `m` has to be within the bounds of `Matrix`. The values are those of `to_rgb`: Y, R, G and B
+/// from 0 to 1, and U and V from -1/2 to 1/2 (ITU-T H.273 section 8.3, E'_Y, E'_PB and E'_PR).
 pub fn from_rgb(m: &Matrix) -> [[Frac; 3]; 3]
     requires { IsMatrix m.now }
     ensures coefficients { result ≡ from_rgb_rows m.now }

@@ -10,7 +10,7 @@ pub record Format : Type 0 where
   pub name : List ℕ
   pub desc : Desc
 
--- a component: its plane, the bytes from one pixel to the next, the bytes before it in the pixel, the bits below it in its number, and its bits
+-- a component: its plane, the bytes from one pixel to the next, the bytes before it in its pixel, the bits below it, and its bits
 abbrev pub comp : ℕ → ℕ → ℤ → ℕ → ℕ → Comp
 comp plane step offset shift depth = record { plane = plane; step = step; offset = offset; shift = shift; depth = depth }
 
@@ -34,7 +34,10 @@ packed depth step offsets = map (λ offset. comp 0 step (pos offset) 0 depth) of
 abbrev pub semi_planar : ℕ → ℕ → ℕ → ℕ → List Comp
 semi_planar shift depth u v =
     let bytes = bytes_of depth in
-    comp 0 bytes (pos 0) shift depth ∷ comp 1 (2 * bytes) (pos u) shift depth ∷ comp 1 (2 * bytes) (pos v) shift depth ∷ []
+    comp 0 bytes (pos 0) shift depth
+    ∷ comp 1 (2 * bytes) (pos u) shift depth
+    ∷ comp 1 (2 * bytes) (pos v) shift depth
+    ∷ []
 
 -- the four entries of a descriptor: its components, and zeros behind them
 abbrev pub four_entries : List Comp → List Comp
@@ -55,7 +58,7 @@ described rgb alpha palette comps = record {
 abbrev pub yuv : List Comp → Desc
 yuv = described false false false
 
--- and alpha
+-- Y and alpha, or Y, U, V and alpha
 abbrev pub yuv_alpha : List Comp → Desc
 yuv_alpha = described false true false
 
@@ -63,27 +66,30 @@ yuv_alpha = described false true false
 abbrev pub rgb : List Comp → Desc
 rgb = described true false false
 
--- and alpha
+-- R, G, B and alpha
 abbrev pub rgb_alpha : List Comp → Desc
 rgb_alpha = described true true false
 
--- an index into a palette
+-- an index into a palette of 256 entries
 abbrev pub indexed : List Comp → Desc
 indexed = described false true true
 
--- the same with big-endian numbers
+-- a descriptor with big-endian numbers
 abbrev pub big_endian : Desc → Desc
 big_endian desc = record desc { be = true }
 
--- one format
+-- a format of this name
 abbrev pub one : String → Desc → List Format
 one name desc = record { name = codes name; desc = desc } ∷ []
 
--- a format in both byte orders
+-- a format in both byte orders, little-endian first
 abbrev pub both : String → Desc → List Format
-both name desc = record { name = codes name ++ codes "le"; desc = desc } ∷ record { name = codes name ++ codes "be"; desc = big_endian desc } ∷ []
+both name desc =
+    record { name = codes name ++ codes "le"; desc = desc }
+    ∷ record { name = codes name ++ codes "be"; desc = big_endian desc }
+    ∷ []
 
--- the table
+-- the table of formats
 unfoldable pub formats : List Format
 formats =
     one "gray" (yuv (planar 8 (0 ∷ [])))
@@ -166,7 +172,7 @@ formats =
 
 -- how many formats there are
 abbrev pub format_count : ℕ
-format_count = 109
+format_count = length formats
 
 -- a format of no name and no component
 abbrev pub no_format : Format
@@ -176,8 +182,10 @@ no_format = record { name = []; desc = yuv [] }
 unfoldable pub format_at : ℕ → Format
 format_at row = slice_index_or formats row no_format
 
+-- the name of the format at a row
 abbrev pub name_of : ℕ → List ℕ
 name_of row = (format_at row).name
 
+-- the descriptor of the format at a row
 abbrev pub desc_of : ℕ → Desc
 desc_of row = (format_at row).desc

@@ -13,6 +13,6 @@ word_formats =
     ∷ "rgb8" ∷ "bgr8" ∷ "rgb4_byte" ∷ "bgr4_byte"
     ∷ "x2rgb10le" ∷ "x2rgb10be" ∷ "x2bgr10le" ∷ "x2bgr10be" ∷ []
 
--- those are words, and the pixels of all others are elements
+-- the layout of the format of a name: Word for the listed ones, and Elements for all others
 unfoldable pub layout_of : List ℕ → Layout
 layout_of name = if list_any (λ word. bytes_eq (codes word) name) word_formats then Word else Elements

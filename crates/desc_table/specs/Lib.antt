@@ -2,4 +2,3 @@ pub mod Format
 pub mod Refused
 pub mod Layout
 pub mod Row
-pub mod Names

@@ -1,22 +1,25 @@
 -- The names of FFmpeg's pixel formats that are refused, with the reason, and what a name finds (FFmpeg, libavutil/pixdesc.c).
 use Prim.Native.String.{String}
 use Rattle.std.specs.Prelude.{ℕ, List, [], ◌∷◌, ◌++◌, map, flat_map, position, find, codes, bytes_eq, Option, Some, None, Result, Ok, Err}
+use Rattle.desc_table.specs.Format.{formats}
 use Rattle.desc_table.specs.declared.fault.FormatFault.{FormatFault}
 use Rattle.desc_table.specs.declared.fault.FormatFault.TheVariants.{Unknown, Subsampled, FloatFormat, Bitstream, OtherUnsupported}
-use Rattle.desc_table.specs.Format.{formats}
 
 -- a refused format: the bytes of its name, and the reason
 pub record Refusal : Type 0 where
   pub name : List ℕ
   pub fault : FormatFault
 
--- these names, for one reason
+-- refusals of these names for one reason
 abbrev pub refuses : FormatFault → List String → List Refusal
 refuses fault names = map (λ name. record { name = codes name; fault = fault }) names
 
--- these names in both byte orders
+-- refusals of these names in both byte orders
 abbrev pub refuses_both : FormatFault → List String → List Refusal
-refuses_both fault names = flat_map (λ name. record { name = codes name ++ codes "le"; fault = fault } ∷ record { name = codes name ++ codes "be"; fault = fault } ∷ []) names
+refuses_both fault names =
+    flat_map (λ name. record { name = codes name ++ codes "le"; fault = fault } ∷ record { name = codes name ++ codes "be"; fault = fault }
+    ∷ [])
+    names
 
 -- the refused names
 unfoldable pub refused : List Refusal
@@ -33,12 +36,24 @@ refused =
     ++ refuses_both OtherUnsupported ("xyz12" ∷ "gray32" ∷ "xv30" ∷ "v30x" ∷ "xv36" ∷ "xv48" ∷ [])
     ++ refuses_both OtherUnsupported ("yuv444p10msb" ∷ "yuv444p12msb" ∷ "gbrp10msb" ∷ "gbrp12msb" ∷ [])
 
--- the row of a name, or else the reason why it is refused
-abbrev pub row_or_fault : Option ℕ → Option Refusal → Result ℕ FormatFault
-row_or_fault (Some row) refusal = Ok row
-row_or_fault None (Some refusal) = Err refusal.fault
-row_or_fault None None = Err Unknown
+-- the fault of what was found: its own, and `Unknown` where nothing was
+abbrev pub fault_or_unknown : Option Refusal → FormatFault
+fault_or_unknown (Some refusal) = refusal.fault
+fault_or_unknown None = Unknown
 
--- what a name finds: the first row that has it, else the fault of the first refused name that is it, else `Unknown`
+-- why a name that is no format's is refused: the fault of the first refused name that it is, else `Unknown`
+unfoldable pub fault_named : List ℕ → FormatFault
+fault_named name = fault_or_unknown (find (λ refusal. bytes_eq refusal.name name) refused)
+
+-- the first row that has this name, counted from 0
+unfoldable pub row_named : List ℕ → Option ℕ
+row_named name = position (λ format. bytes_eq format.name name) formats
+
+-- the row, or else the fault
+abbrev pub row_or_fault : Option ℕ → FormatFault → Result ℕ FormatFault
+row_or_fault (Some row) fault = Ok row
+row_or_fault None fault = Err fault
+
+-- what a name finds: its row in the table, or else why it is refused
 unfoldable pub lookup : List ℕ → Result ℕ FormatFault
-lookup name = row_or_fault (position (λ format. bytes_eq format.name name) formats) (find (λ refusal. bytes_eq refusal.name name) refused)
+lookup name = row_or_fault (row_named name) (fault_named name)

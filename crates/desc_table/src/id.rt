@@ -5,15 +5,15 @@ ghost use Rattle.desc_table.specs.Format.{format_count, desc_of, name_of};
 ghost use Rattle.desc_table.specs.Refused.{lookup};
 
 use crate::fault::FormatFault;
-use crate::names::row_of;
-use crate::table::{row_at, row_count};
+use crate::refused::fault_named;
+use crate::table::{row_at, row_count, row_named};
 use pix_desc::Desc;
 use std::marker::Model;
 
 /// A format of the table. In a clause it is its row, counted from 0.
 #[derive(Clone, Copy, Debug, PartialEq, Eq)]
 pub struct FormatId {
-    row: u8,
+    row: usize,
 }
 
 impl Model for FormatId {
@@ -26,14 +26,17 @@ impl Model for FormatId {
     ghost inverse = { λ row. record { row = row } };
 }
 
-/// The format of this name, or why there is none. It allocates nothing, and compares some nine names.
+/// The format of this name, which is FFmpeg's, byte for byte, or why there is none. It allocates
+/// nothing, and compares the name with those of the table in their order.
 pub fn find(name: &str) -> Result<FormatId, FormatFault>
     ensures value { result ≡ lookup name.now }
     ensures below { IfOk result (λ id. id < format_count) }
     ensures named { IfOk result (λ id. name_of id ≡ name.now) }
 {
-    let row = row_of(name)?;
-    Ok(FormatId { row })
+    match row_named(name) {
+        Some(row) => Ok(FormatId { row }),
+        None => Err(fault_named(name)),
+    }
 }
 
 /// How many formats there are.
@@ -49,7 +52,7 @@ pub fn at(i: usize) -> Option<FormatId>
     ensures row { IfSome result (λ id. id ≡ i) }
 {
     if i < count() {
-        Some(FormatId { row: i as u8 })
+        Some(FormatId { row: i })
     } else {
         None
     }
@@ -60,7 +63,7 @@ pub fn index(id: FormatId) -> usize
     ensures row { result ≡ id }
     ensures below { result < format_count }
 {
-    usize::from(id.row)
+    id.row
 }
 
 /// FFmpeg's name of a format.

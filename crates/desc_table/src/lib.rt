@@ -1,10 +1,11 @@
-//! The pixel formats that are known by name, after FFmpeg's libavutil/pixdesc.c, and the names that are refused.
+//! The pixel formats that are known by name, after FFmpeg's libavutil/pixdesc.c, and the names that
+//! are refused.
 #![tactic(auto)]
 
 mod fault;
 mod id;
 pub mod laws;
-mod names;
+mod refused;
 mod table;
 #[cfg(test)]
 mod tests;

@@ -1,6 +1,7 @@
 // The table of formats, after FFmpeg's libavutil/pixdesc.c.
-ghost use Rattle.std.specs.Prelude.{◌≡◌, ◌<◌, map, length};
+ghost use Rattle.std.specs.Prelude.{◌≡◌, ◌<◌, map, length, position, bytes_eq, IfSome};
 ghost use Rattle.desc_table.specs.Format.{formats, format_count, format_at};
+ghost use Rattle.desc_table.specs.Refused.{row_named};
 ghost use Rattle.desc_table.specs.Row.{format_of};
 
 use pix_desc::Comp;
@@ -70,13 +71,19 @@ macro_rules! row {
         Row {
             name: $name,
             count: $count,
-            comps: [$(Comp { plane: $plane, step: $step, offset: $offset, shift: $shift, depth: $depth }),*],
+            comps: [$(Comp {
+                plane: $plane,
+                step: $step,
+                offset: $offset,
+                shift: $shift,
+                depth: $depth,
+            }),*],
             flags: $flags,
         }
     };
 }
 
-static FORMATS: [Row; 109] = [
+static FORMATS: &[Row] = &[
     row!("gray", PLAIN, [0 1 0 0 8]),
     row!("gray9le", PLAIN, [0 2 0 0 9]),
     row!("gray9be", BIG, [0 2 0 0 9]),
@@ -193,7 +200,7 @@ fn rows() -> &'static [Row]
     ensures count { length result.now ≡ format_count }
     ensures value { map format_of result.now ≡ formats }
 {
-    &FORMATS
+    FORMATS
 }
 
 /// How many rows there are.
@@ -209,4 +216,19 @@ pub fn row_at(row: usize) -> &'static Row
     ensures { format_of result.now ≡ format_at row }
 {
     &rows()[row]
+}
+
+/// The row of the format of this name, counted from 0.
+pub fn row_named(name: &str) -> Option<usize>
+    ensures value { result ≡ row_named name.now }
+    ensures below { IfSome result (λ row. row < format_count) }
+{
+    position_in(rows(), name)
+}
+
+// The first of these rows that has the name.
+fn position_in(rows: &[Row], name: &str) -> Option<usize>
+    ensures { result ≡ position (λ row. bytes_eq row.name.now name.now) rows.now }
+{
+    rows.iter().position(|row| row.name == name)
 }

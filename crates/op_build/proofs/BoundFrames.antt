@@ -11,11 +11,12 @@ use Rattle.pix_meaning.proofs.PixelLaws.{source_below}
 use Rattle.op_list.specs.declared.position.PixelPosition.{PixelPosition}
 use Rattle.op_list.specs.Values.{four, number}
 use Rattle.op_list.specs.Run.{run, checked_run}
-use Rattle.op_build.specs.Meaning.{CheckedIsThere}
-use Rattle.op_build.specs.Recipe.{channel_depth, recipe}
-use Rattle.op_build.specs.Codes.{code_of}
-use Rattle.op_build.specs.BoundClasses.{side_class, side_classes, IsOneOf}
-use Rattle.op_build.proofs.Codes.{code_of-there, code_of-missing, missing_code-below}
+use Rattle.op_build.specs.Meaning.{CheckedRunSucceeds}
+use Rattle.pix_meaning.specs.Channels.{channel_depth}
+use Rattle.op_build.specs.Recipe.{recipe}
+use Rattle.pix_meaning.specs.Channels.{code_of}
+use Rattle.op_build.specs.SideClasses.{side_class, side_classes, IsOneOf}
+use Rattle.pix_meaning.proofs.ChannelCodes.{code_of-there, code_of-missing, missing_code-below}
 use Rattle.op_build.proofs.Decode.{decode_gives}
 use Rattle.op_build.proofs.BoundRuns.{recipe_is_there}
 
@@ -25,11 +26,15 @@ pub code_below : (desc : Desc) (width rows : ℕ) (frame : List ℕ) (x row c : 
 code_below desc width rows frame x row c valid bytes =
     ⊎_elim
     (λ (there : has_channel desc c ≡ true).
-    subst (λ (d : ℕ). code_of desc width rows frame x row c < 2 ^ d) (sym (cond-true (has_channel desc c) (depth_of desc (component_at desc c)) (depth_of desc 0) there))
-    (subst (λ (n : ℕ). n < 2 ^ depth_of desc (component_at desc c)) (sym (code_of-there desc width rows frame x row c there)) (source_below desc width rows frame (component_at desc c) x row bytes)))
+    subst (λ (d : ℕ). code_of desc width rows frame x row c < 2 ^ d)
+    (sym (cond-true (has_channel desc c) (depth_of desc (component_at desc c)) (depth_of desc 0) there))
+    (subst (λ (n : ℕ). n < 2 ^ depth_of desc (component_at desc c)) (sym (code_of-there desc width rows frame x row c there))
+    (source_below desc width rows frame (component_at desc c) x row bytes)))
     (λ (missing : has_channel desc c ≡ false).
-    subst (λ (d : ℕ). code_of desc width rows frame x row c < 2 ^ d) (sym (cond-false (has_channel desc c) (depth_of desc (component_at desc c)) (depth_of desc 0) missing))
-    (subst (λ (n : ℕ). n < 2 ^ depth_of desc 0) (sym (code_of-missing desc width rows frame x row c missing)) (missing_code-below desc c valid)))
+    subst (λ (d : ℕ). code_of desc width rows frame x row c < 2 ^ d)
+    (sym (cond-false (has_channel desc c) (depth_of desc (component_at desc c)) (depth_of desc 0) missing))
+    (subst (λ (n : ℕ). n < 2 ^ depth_of desc 0) (sym (code_of-missing desc width rows frame x row c missing))
+    (missing_code-below desc c valid)))
     (cases_Bool (has_channel desc c))
 
 pub checked_run_is_there : (pair : Pair) (frame : List ℕ) (width rows x row y : ℕ) → IsValidPair pair
@@ -37,10 +42,12 @@ pub checked_run_is_there : (pair : Pair) (frame : List ℕ) (width rows x row y 
     → checked_run (recipe pair) frame width rows x row y ≡ Some (run (recipe pair) frame width rows x row y)
 unfolding checked_run run
 checked_run_is_there pair frame width rows x row y valid from to bytes =
-    let place : PixelPosition = record { width = width; rows = rows; x = x; row = row; y = y } in
+    let position : PixelPosition = record { width = width; rows = rows; x = x; row = row; y = y } in
     ap (λ o. option_map (λ values. four (λ i. number values i)) o)
-    (recipe_is_there pair frame place (code_of pair.from.desc width rows frame x row) from to valid.dither (decode_gives pair.from.desc frame place valid.from bytes)
+    (recipe_is_there pair frame position (code_of pair.from.desc width rows frame x row) from to valid.dither
+    (decode_gives pair.from.desc frame position valid.from bytes)
     (λ c listed. code_below pair.from.desc width rows frame x row c valid.from bytes))
 
-pub checked_is_there : (pair : Pair) → CheckedIsThere pair
-checked_is_there pair = λ valid from to frame width rows x row y bytes. checked_run_is_there pair frame width rows x row y valid from to bytes
+pub checked_is_there : (pair : Pair) → CheckedRunSucceeds pair
+checked_is_there pair =
+    λ valid from to frame width rows x row y bytes. checked_run_is_there pair frame width rows x row y valid from to bytes

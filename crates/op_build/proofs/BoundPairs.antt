@@ -1,5 +1,6 @@
 -- The checked conversion of a pair whose sides are of the classes is there, and is the exact one.
-use Rattle.std.proofs.Common.{◌≡◌, inl, inr, ℕ, zero, suc, ◌-◌, ◌^◌, ◌<◌, ◌≤◌, Bool, true, false, not, List, [], ◌∷◌, ◌++◌, refl, sym, ◌∙◌, ap, subst, arith}
+use Rattle.std.proofs.Common.{◌≡◌, inl, inr, ℕ, zero, suc, ◌-◌, ◌^◌, ◌<◌, ◌≤◌, Bool, true, false, not, List, [], ◌∷◌, ◌++◌, refl, sym, ◌∙◌}
+use Rattle.std.proofs.Common.{ap, subst, arith}
 use Rattle.std.specs.Prelude.{Option, Some, None, slice_index}
 use Rattle.std.specs.List.{list_all}
 use Rattle.std.specs.Option.{option_and_then}
@@ -24,9 +25,12 @@ use Rattle.op_list.specs.Typing.{stage_after}
 use Rattle.op_list.specs.Apply.{apply}
 use Rattle.op_list.specs.Checked.{checked_apply}
 use Rattle.op_list.specs.Run.{run_from, checked_run_from}
-use Rattle.op_build.specs.Recipe.{only_if, over_three, channel_depth, from_codes, to_codes, from_codes_by, to_codes_by, limits, convert}
+use Rattle.pix_meaning.specs.Channels.{channel_depth}
+use Rattle.op_build.specs.Recipe.{only_if, over_three, from_codes, to_codes, from_codes_by, to_codes_by, limits, convert}
 use Rattle.op_range.specs.FractionBounds.{FractionBound, HaveBounds, bound_in, limited_bound, bounds_after, bounds_from}
-use Rattle.op_build.specs.BoundClasses.{SideClass, side_class_of, side_class, class_levels, source_ops, target_rows_ops, code_bounds, is_there, test_then, target_fits, source_fits, side_classes, IsOneOf}
+use Rattle.op_build.specs.SideClasses.{SideClass, side_class_of, side_class, side_classes, IsOneOf}
+use Rattle.op_build.proofs.ClassTests.{class_levels, source_ops, target_rows_ops, code_bounds, is_there, test_then, target_fits}
+use Rattle.op_build.proofs.ClassTests.{source_fits}
 use Rattle.op_range.proofs.FractionBounds.{nat_bound}
 use Rattle.op_range.proofs.FractionBoundSteps.{of_four, run_there}
 use Rattle.op_build.proofs.BoundClasses.{classes_fit}
@@ -46,13 +50,16 @@ there_some None h use_it = absurd (cc)
 there_some (Some x) h use_it = use_it x refl
 
 -- ---- one list after the other
-append_there : (first second : List Op) (bounds middle last : List FractionBound) → bounds_from first bounds ≡ Some middle → bounds_from second middle ≡ Some last
+append_there : (first second : List Op) (bounds middle last : List FractionBound) → bounds_from first bounds ≡ Some middle
+    → bounds_from second middle ≡ Some last
     → bounds_from (first ++ second) bounds ≡ Some last
 unfolding bounds_from
-append_there [] second bounds middle last p q = subst (λ (b : List FractionBound). bounds_from second b ≡ Some last) (sym (same_Some bounds middle p)) q
+append_there [] second bounds middle last p q =
+    subst (λ (b : List FractionBound). bounds_from second b ≡ Some last) (sym (same_Some bounds middle p)) q
 append_there (op ∷ first) second bounds middle last p q =
     option_and_then_some _ (bounds_after op bounds) middle p
-    (λ next is rest. ap (λ o. option_and_then (λ next. bounds_from (first ++ second) next) o) is ∙ append_there first second next middle last rest q)
+    (λ next is rest. ap (λ o. option_and_then (λ next. bounds_from (first ++ second) next) o) is
+    ∙ append_there first second next middle last rest q)
 
 -- ---- the end of the list, for each size of dither
 dither_after : (k : ℕ) (bounds : List FractionBound) → k ≤ 4 → bounds_after (Dither k) bounds ≡ bounds_after (Dither 4) bounds
@@ -69,16 +76,20 @@ limited_after greatest least bounds =
     let lower = four (λ i. limited_bound (entry greatest i) (bound_in bounds i)) in
     four (λ i. limited_bound (entry least i) (bound_in lower i))
 
-limits_there : (greatest least : List (Option ℚ)) (bounds : List FractionBound) → bounds_from (Max greatest ∷ Min least ∷ []) bounds ≡ Some (limited_after greatest least bounds)
+limits_there : (greatest least : List (Option ℚ)) (bounds : List FractionBound)
+    → bounds_from (Max greatest ∷ Min least ∷ []) bounds ≡ Some (limited_after greatest least bounds)
 unfolding bounds_from bounds_after
 limits_there greatest least bounds = refl
 
-step_there : (op : Op) (ops : List Op) (bounds next : List FractionBound) → bounds_after op bounds ≡ Some next → bounds_from (op ∷ ops) bounds ≡ bounds_from ops next
+step_there : (op : Op) (ops : List Op) (bounds next : List FractionBound) → bounds_after op bounds ≡ Some next
+    → bounds_from (op ∷ ops) bounds ≡ bounds_from ops next
 unfolding bounds_from
 step_there op ops bounds next h = ap (λ o. option_and_then (λ next. bounds_from ops next) o) h
 
-end_there : (op : Op) (k : ℕ) (greatest least : List (Option ℚ)) (bounds codes last : List FractionBound) → k ≤ 4 → bounds_after op bounds ≡ Some codes
-    → bounds_after (Dither 4) codes ≡ Some last → bounds_from (op ∷ Dither k ∷ Max greatest ∷ Min least ∷ []) bounds ≡ Some (limited_after greatest least last)
+end_there : (op : Op) (k : ℕ) (greatest least : List (Option ℚ)) (bounds codes last : List FractionBound) → k ≤ 4
+    → bounds_after op bounds ≡ Some codes
+    → bounds_after (Dither 4) codes ≡ Some last
+    → bounds_from (op ∷ Dither k ∷ Max greatest ∷ Min least ∷ []) bounds ≡ Some (limited_after greatest least last)
 end_there op k greatest least bounds codes last h p q =
     step_there op (Dither k ∷ Max greatest ∷ Min least ∷ []) bounds codes p
     ∙ step_there (Dither k) (Max greatest ∷ Min least ∷ []) codes last (dither_after k codes h ∙ q)
@@ -86,23 +97,31 @@ end_there op k greatest least bounds codes last h p q =
 
 -- ---- the list of two classes
 abbrev class_list : SideClass → SideClass → ℕ → List (Option ℚ) → List (Option ℚ) → List Op
-class_list from to k greatest least = source_ops from ++ (target_rows_ops to ++ to_codes_by (class_levels to) ∷ Dither k ∷ Max greatest ∷ Min least ∷ [])
+class_list from to k greatest least =
+    source_ops from ++ (target_rows_ops to ++ to_codes_by (class_levels to) ∷ Dither k ∷ Max greatest ∷ Min least ∷ [])
 
-target_there : (bounds : List FractionBound) (to : SideClass) (k : ℕ) (greatest least : List (Option ℚ)) (P : Type 0) → k ≤ 4 → target_fits bounds to ≡ true
-    → ((last : List FractionBound) → bounds_from (target_rows_ops to ++ to_codes_by (class_levels to) ∷ Dither k ∷ Max greatest ∷ Min least ∷ []) bounds ≡ Some last → P) → P
+target_there : (bounds : List FractionBound) (to : SideClass) (k : ℕ) (greatest least : List (Option ℚ)) (P : Type 0) → k ≤ 4
+    → target_fits bounds to ≡ true
+    → ((last : List FractionBound) → bounds_from
+    (target_rows_ops to ++ to_codes_by (class_levels to) ∷ Dither k ∷ Max greatest ∷ Min least ∷ []) bounds ≡ Some last → P) → P
 unfolding target_fits
 target_there bounds to k greatest least P h t use_it =
     then_there (bounds_from (target_rows_ops to) bounds) _ t (λ values is_values t2.
     then_there (bounds_after (to_codes_by (class_levels to)) values) _ t2 (λ codes is_codes t3.
     there_some (bounds_after (Dither 4) codes) t3 (λ last is_last.
-    use_it (limited_after greatest least last) (append_there (target_rows_ops to) (to_codes_by (class_levels to) ∷ Dither k ∷ Max greatest ∷ Min least ∷ []) bounds values (limited_after greatest least last) is_values
+    use_it (limited_after greatest least last)
+    (append_there (target_rows_ops to) (to_codes_by (class_levels to) ∷ Dither k ∷ Max greatest ∷ Min least ∷ []) bounds values
+    (limited_after greatest least last) is_values
     (end_there (to_codes_by (class_levels to)) k greatest least values codes last h is_codes is_last)))))
 
-classes_there : (from to : SideClass) (k : ℕ) (greatest least : List (Option ℚ)) (P : Type 0) → k ≤ 4 → IsOneOf from side_classes → IsOneOf to side_classes
-    → ((last : List FractionBound) → bounds_from (class_list from to k greatest least) (code_bounds (slice_index from.depths)) ≡ Some last → P) → P
+classes_there : (from to : SideClass) (k : ℕ) (greatest least : List (Option ℚ)) (P : Type 0) → k ≤ 4 → IsOneOf from side_classes
+    → IsOneOf to side_classes
+    → ((last : List FractionBound) → bounds_from (class_list from to k greatest least)
+    (code_bounds (slice_index from.depths)) ≡ Some last → P) → P
 unfolding source_fits
 classes_there from to k greatest least P h f t use_it =
-    then_there (bounds_from (source_ops from) (code_bounds (slice_index from.depths))) (λ bounds. list_all (target_fits bounds) side_classes)
+    then_there (bounds_from (source_ops from) (code_bounds (slice_index from.depths)))
+    (λ bounds. list_all (target_fits bounds) side_classes)
     (every_one (source_fits side_classes) side_classes from classes_fit f) (λ bounds is fits.
     target_there bounds to k greatest least P h (every_one (target_fits bounds) side_classes to fits t) (λ last rest.
     use_it last (append_there (source_ops from) _ _ bounds last is rest)))
@@ -112,13 +131,15 @@ abbrev raw_class : Side → SideClass
 raw_class side = record { rgb = is_rgb side.desc; depths = four (λ c. channel_depth side.desc c); range = side.range; matrix = side.matrix }
 
 source_same : (rgb : Bool) (depths : List ℕ) (range : Range) (matrix : Matrix)
-    → source_ops (record { rgb = rgb; depths = depths; range = range; matrix = matrix }) ≡ source_ops (side_class_of rgb depths range matrix)
+    → source_ops (record { rgb = rgb; depths = depths; range = range; matrix = matrix })
+    ≡ source_ops (side_class_of rgb depths range matrix)
 unfolding levels
 source_same true depths range matrix = refl
 source_same false depths range matrix = refl
 
 target_same : (rgb : Bool) (depths : List ℕ) (range : Range) (matrix : Matrix) (ops : List Op)
-    → let raw : SideClass = record { rgb = rgb; depths = depths; range = range; matrix = matrix } in let k = side_class_of rgb depths range matrix in
+    → let raw : SideClass =
+    record { rgb = rgb; depths = depths; range = range; matrix = matrix } in let k = side_class_of rgb depths range matrix in
     (target_rows_ops raw ++ to_codes_by (class_levels raw) ∷ ops) ≡ (target_rows_ops k ++ to_codes_by (class_levels k) ∷ ops)
 unfolding levels
 target_same true depths range matrix ops = refl
@@ -139,51 +160,68 @@ unfolding to_codes
 to_raw side = refl
 
 in_parts : (a b : Bool) (first x y last : Op) (tail : List Op)
-    → (Convert Rat Bool.false ∷ first ∷ only_if a x ++ only_if b y ++ last ∷ tail) ≡ (Convert Rat Bool.false ∷ ((first ∷ only_if a x) ++ (only_if b y ++ last ∷ tail)))
+    → (Convert Rat Bool.false ∷ first ∷ only_if a x ++ only_if b y ++ last ∷ tail)
+    ≡ (Convert Rat Bool.false ∷ ((first ∷ only_if a x) ++ (only_if b y ++ last ∷ tail)))
 in_parts true true first x y last tail = refl
 in_parts true false first x y last tail = refl
 in_parts false true first x y last tail = refl
 in_parts false false first x y last tail = refl
 
-convert_raw : (pair : Pair) → convert pair ≡ Convert Rat Bool.false ∷ class_list (raw_class pair.from) (raw_class pair.to) pair.dither (least_limits pair) (greatest_limits pair)
+convert_raw : (pair : Pair)
+    → convert pair
+    ≡ Convert Rat Bool.false ∷ class_list (raw_class pair.from) (raw_class pair.to) pair.dither (least_limits pair) (greatest_limits pair)
 unfolding convert
 convert_raw pair =
     let tail = Dither pair.dither ∷ Max (least_limits pair) ∷ Min (greatest_limits pair) ∷ [] in
     let to_rows = Linear (over_three (to_rgb_rows pair.from.matrix)) in
     let from_rows = Linear (over_three (from_rgb_rows pair.to.matrix)) in
     in_parts (not (is_rgb pair.from.desc)) (not (is_rgb pair.to.desc)) (from_codes pair.from) to_rows from_rows (to_codes pair.to) tail
-    ∙ ap (λ op. Convert Rat Bool.false ∷ ((op ∷ only_if (not (is_rgb pair.from.desc)) to_rows) ++ (target_rows_ops (raw_class pair.to) ++ to_codes pair.to ∷ tail))) (from_raw pair.from)
-    ∙ ap (λ op. Convert Rat Bool.false ∷ (source_ops (raw_class pair.from) ++ (target_rows_ops (raw_class pair.to) ++ op ∷ tail))) (to_raw pair.to)
+    ∙ ap (λ op. Convert Rat Bool.false ∷ ((op ∷ only_if (not (is_rgb pair.from.desc)) to_rows) ++ (target_rows_ops
+    (raw_class pair.to) ++ to_codes pair.to ∷ tail))) (from_raw pair.from)
+    ∙ ap (λ op. Convert Rat Bool.false ∷ (source_ops (raw_class pair.from) ++ (target_rows_ops (raw_class pair.to) ++ op ∷ tail)))
+    (to_raw pair.to)
 
-convert_classes : (pair : Pair) → convert pair ≡ Convert Rat Bool.false ∷ class_list (side_class pair.from) (side_class pair.to) pair.dither (least_limits pair) (greatest_limits pair)
+convert_classes : (pair : Pair)
+    → convert pair
+    ≡ Convert Rat Bool.false ∷ class_list (side_class pair.from) (side_class pair.to) pair.dither (least_limits pair) (greatest_limits pair)
 convert_classes pair =
     let tail = Dither pair.dither ∷ Max (least_limits pair) ∷ Min (greatest_limits pair) ∷ [] in
     convert_raw pair
     ∙ ap (λ ops. Convert Rat Bool.false ∷ ops)
-    (ap (λ ops. ops ++ (target_rows_ops (raw_class pair.to) ++ to_codes_by (class_levels (raw_class pair.to)) ∷ tail)) (source_same (is_rgb pair.from.desc) (four (λ c. channel_depth pair.from.desc c)) pair.from.range pair.from.matrix)
-    ∙ ap (λ ops. source_ops (side_class pair.from) ++ ops) (target_same (is_rgb pair.to.desc) (four (λ c. channel_depth pair.to.desc c)) pair.to.range pair.to.matrix tail))
+    (ap (λ ops. ops ++ (target_rows_ops (raw_class pair.to) ++ to_codes_by (class_levels (raw_class pair.to)) ∷ tail))
+    (source_same (is_rgb pair.from.desc) (four (λ c. channel_depth pair.from.desc c)) pair.from.range pair.from.matrix)
+    ∙ ap (λ ops. source_ops (side_class pair.from) ++ ops)
+    (target_same (is_rgb pair.to.desc) (four (λ c. channel_depth pair.to.desc c)) pair.to.range pair.to.matrix tail))
 
 -- ---- from the codes
-codes_bounded : (code depth : ℕ → ℕ) → ((c : ℕ) → c < 4 → code c < 2 ^ depth c) → HaveBounds (Fractions (four (λ c. nat (code c)))) (code_bounds depth)
+codes_bounded : (code depth : ℕ → ℕ) → ((c : ℕ) → c < 4 → code c < 2 ^ depth c)
+    → HaveBounds (Fractions (four (λ c. nat (code c)))) (code_bounds depth)
 codes_bounded code depth h = record {
   each = of_four (λ c. nat (code c)) _ _ _ _
-      (nat_bound (code 0) (2 ^ depth 0 - 1) (omega (arith, h 0 (omega arith)))) (nat_bound (code 1) (2 ^ depth 1 - 1) (omega (arith, h 1 (omega arith))))
-      (nat_bound (code 2) (2 ^ depth 2 - 1) (omega (arith, h 2 (omega arith)))) (nat_bound (code 3) (2 ^ depth 3 - 1) (omega (arith, h 3 (omega arith))));
+      (nat_bound (code 0) (2 ^ depth 0 - 1) (omega (arith, h 0 (omega arith))))
+      (nat_bound (code 1) (2 ^ depth 1 - 1) (omega (arith, h 1 (omega arith))))
+      (nat_bound (code 2) (2 ^ depth 2 - 1) (omega (arith, h 2 (omega arith))))
+      (nat_bound (code 3) (2 ^ depth 3 - 1) (omega (arith, h 3 (omega arith))));
 }
 
-converted_there : (frame : List ℕ) (place : PixelPosition) (stage : Stage) (ops : List Op) (code depth : ℕ → ℕ) (last : List FractionBound) → ((c : ℕ) → c < 4 → code c < 2 ^ depth c)
+converted_there : (frame : List ℕ) (position : PixelPosition) (stage : Stage) (ops : List Op) (code depth : ℕ → ℕ)
+    (last : List FractionBound) → ((c : ℕ) → c < 4 → code c < 2 ^ depth c)
     → bounds_from ops (code_bounds depth) ≡ Some last
-    → checked_run_from frame place stage (Convert Rat Bool.false ∷ ops) (Numbers (four code)) ≡ Some (run_from frame place stage (Convert Rat Bool.false ∷ ops) (Numbers (four code)))
+    → checked_run_from frame position stage (Convert Rat Bool.false ∷ ops) (Numbers (four code))
+    ≡ Some (run_from frame position stage (Convert Rat Bool.false ∷ ops) (Numbers (four code)))
 unfolding checked_run_from run_from checked_apply apply
-converted_there frame place stage ops code depth last h is =
-    (run_there frame place (stage_after stage (Convert Rat Bool.false)) ops (Fractions (four (λ c. nat (code c)))) (code_bounds depth) last (codes_bounded code depth h) is).there
+converted_there frame position stage ops code depth last h is =
+    (run_there frame position (stage_after stage (Convert Rat Bool.false)) ops (Fractions (four (λ c. nat (code c))))
+    (code_bounds depth) last (codes_bounded code depth h) is).there
 
 -- the checked conversion gives what the exact one gives
-pub converting_is_there : (pair : Pair) (frame : List ℕ) (place : PixelPosition) (stage : Stage) (code : ℕ → ℕ)
+pub converting_is_there : (pair : Pair) (frame : List ℕ) (position : PixelPosition) (stage : Stage) (code : ℕ → ℕ)
     → IsOneOf (side_class pair.from) side_classes → IsOneOf (side_class pair.to) side_classes → pair.dither ≤ 4
     → ((c : ℕ) → c < 4 → code c < 2 ^ channel_depth pair.from.desc c)
-    → checked_run_from frame place stage (convert pair) (Numbers (four code)) ≡ Some (run_from frame place stage (convert pair) (Numbers (four code)))
-converting_is_there pair frame place stage code from to k h =
+    → checked_run_from frame position stage (convert pair) (Numbers (four code))
+    ≡ Some (run_from frame position stage (convert pair) (Numbers (four code)))
+converting_is_there pair frame position stage code from to k h =
     classes_there (side_class pair.from) (side_class pair.to) pair.dither (least_limits pair) (greatest_limits pair) _ k from to (λ last is.
-    subst (λ (ops : List Op). checked_run_from frame place stage ops (Numbers (four code)) ≡ Some (run_from frame place stage ops (Numbers (four code)))) (sym (convert_classes pair))
-    (converted_there frame place stage _ code (channel_depth pair.from.desc) last h is))
+    subst (λ (ops : List Op). checked_run_from frame position stage ops (Numbers (four code)) ≡ Some
+    (run_from frame position stage ops (Numbers (four code)))) (sym (convert_classes pair))
+    (converted_there frame position stage _ code (channel_depth pair.from.desc) last h is))

@@ -1,9 +1,8 @@
 -- The bits of numbers of several bytes: little-endian ones, and those with their bytes in the other order.
-use Rattle.std.proofs.Common.{◌≡◌, ℕ, zero, suc, ◌+◌, ◌-◌, ◌*◌, ◌/◌, ◌%◌, ◌^◌, ◌<◌, ◌≤◌, ⊎_elim, Bool, true, false, if◌then◌else◌, List, get_or, sym, refl, ap, ◌∙◌, arith}
+use Rattle.std.proofs.Common.{◌≡◌, ℕ, zero, suc, ◌+◌, ◌-◌, ◌*◌, ◌/◌, ◌%◌, ◌^◌, ◌<◌, ◌≤◌, ⊎_elim, Bool, true, false, if◌then◌else◌, List}
+use Rattle.std.proofs.Common.{get_or, sym, ap, ◌∙◌, arith}
 use Rattle.std.specs.Int.{bit_at}
-use Rattle.std.proofs.Math.Nat.{pow-suc}
 use Rattle.std.proofs.lemmas.Bool.{cases_lt}
-use Rattle.std.proofs.lemmas.Nat.{pow-add, mul-add-lt}
 use Rattle.std.proofs.lemmas.Nat.Bits.{bit_at_cat_low, bit_at_cat_high}
 use Rattle.pix_desc.specs.Component.{bit_of}
 use Rattle.pix_desc.proofs.Bits.{bit_at_low_byte, bit_at_high_byte, bit_at_mod_byte, bit_at_div_byte}
@@ -11,7 +10,7 @@ use Rattle.pix_desc.proofs.FrameExists.{bit_of_byte}
 use Rattle.op_list.proofs.ReversedBytes.{power_of_bytes, reversed_bytes-below}
 use Rattle.op_list.specs.Pixel.{number_at}
 use Rattle.op_list.specs.Whole.{reversed_bytes}
-use Rattle.op_build.proofs.WordBits.{bit_in_order}
+use Rattle.pix_desc.proofs.WordBits.{bit_in_order}
 
 -- bit m of the number of some bytes of a frame is bit m of those bytes
 pub bit_at_number_at : (frame : List ℕ) (count at m : ℕ) → ((k : ℕ) → get_or frame k 0 < 256) → m < 8 * count
@@ -59,9 +58,11 @@ in_order be count n = if be then reversed_bytes count n else n
 pub bit_at_in_order : (frame : List ℕ) (be : Bool) (count at m : ℕ) → ((k : ℕ) → get_or frame k 0 < 256) → m < 8 * count
     → bit_at (in_order be count (number_at count frame at)) m ≡ bit_of frame (8 * at + bit_in_order be count m)
 bit_at_in_order frame true count at m bytes inside =
-    bit_at_reversed count (number_at count frame at) m inside ∙ bit_at_number_at frame count at (8 * (count - 1 - m / 8) + m % 8) bytes (omega arith)
+    bit_at_reversed count (number_at count frame at) m inside
+    ∙ bit_at_number_at frame count at (8 * (count - 1 - m / 8) + m % 8) bytes (omega arith)
 bit_at_in_order frame false count at m bytes inside = bit_at_number_at frame count at m bytes inside
 
 -- one byte is the same in either order
-pub one_byte_in_order : (frame : List ℕ) (at : ℕ) → ((k : ℕ) → get_or frame k 0 < 256) → reversed_bytes 1 (number_at 1 frame at) ≡ number_at 1 frame at
+pub one_byte_in_order : (frame : List ℕ) (at : ℕ) → ((k : ℕ) → get_or frame k 0 < 256)
+    → reversed_bytes 1 (number_at 1 frame at) ≡ number_at 1 frame at
 one_byte_in_order frame at bytes = omega (arith, bytes at)

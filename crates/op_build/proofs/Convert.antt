@@ -1,5 +1,6 @@
 -- Converting turns the codes of a source pixel's channels into values whose floors are the results.
-use Rattle.std.proofs.Common.{◌≡◌, ℕ, ◌+◌, ◌-◌, ◌^◌, ◌<◌, Bool, true, false, not, if◌then◌else◌, pos, List, [], ◌∷◌, ◌++◌, Some, None, refl, ap, ◌∙◌, arith}
+use Rattle.std.proofs.Common.{◌≡◌, ℕ, ◌+◌, ◌-◌, ◌^◌, ◌<◌, Bool, true, false, not, if◌then◌else◌, pos, List, [], ◌∷◌, ◌++◌, Some, None, refl}
+use Rattle.std.proofs.Common.{ap, ◌∙◌, arith}
 use Rattle.std.proofs.lemmas.Bool.{cond-true, cond-false}
 use Rattle.frac_math.specs.Fraction.{ℚ, nat, floor, ◌+ℚ◌}
 use Rattle.frac_math.specs.Dither.{dither_at}
@@ -26,10 +27,12 @@ use Rattle.op_list.specs.Run.{run_from}
 use Rattle.op_list.specs.Typing.{stage_after, stage_from}
 use Rattle.op_list.proofs.Runs.{run_from-append}
 use Rattle.op_list.proofs.Typed.{stage_from-append}
-use Rattle.op_build.specs.Recipe.{only_if, channel_depth, channel_levels, over_three, from_codes, to_codes, limits, convert}
-use Rattle.op_build.specs.Codes.{code_of}
-use Rattle.op_build.proofs.ConvertLevels.{levels_there, code_means}
-use Rattle.op_build.proofs.ConvertSteps.{same_fractions, from_codes-applied, to_codes-applied, from_codes-stage, to_codes-stage, to_rgb-run, from_rgb-run, only_if-stage}
+use Rattle.pix_meaning.specs.Channels.{channel_depth, channel_levels}
+use Rattle.op_build.specs.Recipe.{only_if, over_three, from_codes, to_codes, limits, convert}
+use Rattle.pix_meaning.specs.Channels.{code_of}
+use Rattle.pix_meaning.proofs.ChannelLevels.{levels_there, code_means}
+use Rattle.op_build.proofs.ConvertSteps.{same_fractions, from_codes-applied, to_codes-applied, from_codes-stage, to_codes-stage, to_rgb-run}
+use Rattle.op_build.proofs.ConvertSteps.{from_rgb-run, only_if-stage}
 use Rattle.op_build.proofs.ConvertClamp.{floor_limited}
 
 -- ---- the values at the end
@@ -37,19 +40,23 @@ use Rattle.op_build.proofs.ConvertClamp.{floor_limited}
 -- the value wanted of channel c, dithered
 abbrev pub dithered : Pair → ℕ → ℕ → List ℕ → ℕ → ℕ → ℕ → ℕ → ℚ
 dithered pair width rows frame x row y c =
-    to_code (channel_levels pair.to c) (value_at (target_values pair.to (rgb_values pair.from (source_values pair.from width rows frame x row))) c) +ℚ dither_at pair.dither x y
+    to_code (channel_levels pair.to c)
+    (value_at
+    (target_values pair.to (rgb_values pair.from (source_values pair.from width rows frame x row))) c) +ℚ dither_at pair.dither x y
 
 -- within the codes, where the target has the channel
 abbrev pub limited : Bool → ℕ → ℚ → ℚ
 limited has depth value = at_most (if has then Some (nat (2 ^ depth - 1)) else None) (at_least (if has then Some (nat 0) else None) value)
 
 unfoldable pub coded : Pair → ℕ → ℕ → List ℕ → ℕ → ℕ → ℕ → ℕ → ℚ
-coded pair width rows frame x row y c = limited (has_channel pair.to.desc c) (channel_depth pair.to.desc c) (dithered pair width rows frame x row y c)
+coded pair width rows frame x row y c =
+    limited (has_channel pair.to.desc c) (channel_depth pair.to.desc c) (dithered pair width rows frame x row y c)
 
 -- ---- their floors are the results
 
 pub coded_floor : (pair : Pair) (width rows first : ℕ) (frame : List ℕ) (j x row : ℕ) → IsValidPair pair → j < component_count pair.to.desc
-    → floor (coded pair width rows frame x row (first + row) (channel_of pair.to.desc j)) ≡ pos (result_of pair width rows first frame j x row)
+    → floor (coded pair width rows frame x row (first + row) (channel_of pair.to.desc j))
+    ≡ pos (result_of pair width rows first frame j x row)
 unfolding coded result_of wanted
 coded_floor pair width rows first frame j x row valid listed =
     let desc = pair.to.desc in
@@ -73,32 +80,38 @@ last_steps pair =
     to_codes pair.to ∷ Dither pair.dither
     ∷ Max (limits pair.to.desc (λ c. nat 0)) ∷ Min (limits pair.to.desc (λ c. nat (2 ^ channel_depth pair.to.desc c - 1))) ∷ []
 
-limited_run : (frame : List ℕ) (place : PixelPosition) (stage : Stage) (pair : Pair) (f : ℕ → ℚ)
-    → run_from frame place stage
-    (Dither pair.dither ∷ Max (limits pair.to.desc (λ c. nat 0)) ∷ Min (limits pair.to.desc (λ c. nat (2 ^ channel_depth pair.to.desc c - 1))) ∷ []) (Fractions (four f))
-    ≡ Fractions (four (λ c. limited (has_channel pair.to.desc c) (channel_depth pair.to.desc c) (f c +ℚ dither_at pair.dither place.x place.y)))
+limited_run : (frame : List ℕ) (position : PixelPosition) (stage : Stage) (pair : Pair) (f : ℕ → ℚ)
+    → run_from frame position stage
+    (Dither pair.dither ∷ Max (limits pair.to.desc (λ c. nat 0)) ∷ Min
+    (limits pair.to.desc (λ c. nat (2 ^ channel_depth pair.to.desc c - 1))) ∷ []) (Fractions (four f))
+    ≡ Fractions
+    (four (λ c. limited (has_channel pair.to.desc c) (channel_depth pair.to.desc c) (f c +ℚ dither_at pair.dither position.x position.y)))
 unfolding run_from apply
-limited_run frame place stage pair f = refl
+limited_run frame position stage pair f = refl
 
-last_run : (frame : List ℕ) (place : PixelPosition) (stage : Stage) (pair : Pair) (e : Values)
-    → run_from frame place stage (last_steps pair) (Fractions (four (value_at e)))
-    ≡ Fractions (four (λ c. limited (has_channel pair.to.desc c) (channel_depth pair.to.desc c) (to_code (channel_levels pair.to c) (value_at e c) +ℚ dither_at pair.dither place.x place.y)))
+last_run : (frame : List ℕ) (position : PixelPosition) (stage : Stage) (pair : Pair) (e : Values)
+    → run_from frame position stage (last_steps pair) (Fractions (four (value_at e)))
+    ≡ Fractions
+    (four (λ c. limited (has_channel pair.to.desc c) (channel_depth pair.to.desc c)
+    (to_code (channel_levels pair.to c) (value_at e c) +ℚ dither_at pair.dither position.x position.y)))
 unfolding run_from
-last_run frame place stage pair e =
-    let rest = Dither pair.dither ∷ Max (limits pair.to.desc (λ c. nat 0)) ∷ Min (limits pair.to.desc (λ c. nat (2 ^ channel_depth pair.to.desc c - 1))) ∷ [] in
-    ap (run_from frame place (stage_after stage (to_codes pair.to)) rest) (to_codes-applied frame place stage pair.to (value_at e))
-    ∙ limited_run frame place (stage_after stage (to_codes pair.to)) pair (λ c. to_code (channel_levels pair.to c) (value_at e c))
+last_run frame position stage pair e =
+    let rest = Dither pair.dither ∷ Max (limits pair.to.desc (λ c. nat 0)) ∷ Min
+    (limits pair.to.desc (λ c. nat (2 ^ channel_depth pair.to.desc c - 1))) ∷ [] in
+    ap (run_from frame position (stage_after stage (to_codes pair.to)) rest) (to_codes-applied frame position stage pair.to (value_at e))
+    ∙ limited_run frame position (stage_after stage (to_codes pair.to)) pair (λ c. to_code (channel_levels pair.to c) (value_at e c))
 
-source_read : (side : Side) (frame : List ℕ) (place : PixelPosition) → IsValid side.desc
-    → Fractions (four (λ c. from_code (channel_levels side c) (nat (code_of side.desc place.width place.rows frame place.x place.row c))))
-    ≡ Fractions (four (value_at (source_values side place.width place.rows frame place.x place.row)))
+source_read : (side : Side) (frame : List ℕ) (position : PixelPosition) → IsValid side.desc
+    → Fractions
+    (four (λ c. from_code (channel_levels side c) (nat (code_of side.desc position.width position.rows frame position.x position.row c))))
+    ≡ Fractions (four (value_at (source_values side position.width position.rows frame position.x position.row)))
 unfolding source_values
-source_read side frame place valid =
+source_read side frame position valid =
     same_fractions _ _ _ _ _ _ _ _
-    (code_means side place.width place.rows frame place.x place.row 0 valid (omega arith))
-    (code_means side place.width place.rows frame place.x place.row 1 valid (omega arith))
-    (code_means side place.width place.rows frame place.x place.row 2 valid (omega arith))
-    (code_means side place.width place.rows frame place.x place.row 3 valid (omega arith))
+    (code_means side position.width position.rows frame position.x position.row 0 valid (omega arith))
+    (code_means side position.width position.rows frame position.x position.row 1 valid (omega arith))
+    (code_means side position.width position.rows frame position.x position.row 2 valid (omega arith))
+    (code_means side position.width position.rows frame position.x position.row 3 valid (omega arith))
 
 abbrev to_rgb_step : Pair → List Op
 to_rgb_step pair = only_if (not (is_rgb pair.from.desc)) (Linear (over_three (to_rgb_rows pair.from.matrix)))
@@ -107,45 +120,53 @@ abbrev from_rgb_step : Pair → List Op
 from_rgb_step pair = only_if (not (is_rgb pair.to.desc)) (Linear (over_three (from_rgb_rows pair.to.matrix)))
 
 -- the steps between the values and the codes of the target
-middle_run : (frame : List ℕ) (place : PixelPosition) (stage : Stage) (pair : Pair) (e : Values) → IsValidPair pair
-    → run_from frame place stage (to_rgb_step pair ++ from_rgb_step pair ++ last_steps pair) (Fractions (four (value_at e)))
+middle_run : (frame : List ℕ) (position : PixelPosition) (stage : Stage) (pair : Pair) (e : Values) → IsValidPair pair
+    → run_from frame position stage (to_rgb_step pair ++ from_rgb_step pair ++ last_steps pair) (Fractions (four (value_at e)))
     ≡ Fractions (four (λ c. limited (has_channel pair.to.desc c) (channel_depth pair.to.desc c)
-    (to_code (channel_levels pair.to c) (value_at (target_values pair.to (rgb_values pair.from e)) c) +ℚ dither_at pair.dither place.x place.y)))
-middle_run frame place stage pair e valid =
+    (to_code (channel_levels pair.to c)
+    (value_at (target_values pair.to (rgb_values pair.from e)) c) +ℚ dither_at pair.dither position.x position.y)))
+middle_run frame position stage pair e valid =
     let second = stage_from stage (to_rgb_step pair) in
     let third = stage_from stage (to_rgb_step pair ++ from_rgb_step pair) in
     let start = Fractions (four (value_at e)) in
-    run_from-append frame place stage (to_rgb_step pair ++ from_rgb_step pair) (last_steps pair) start
-    ∙ ap (run_from frame place third (last_steps pair))
-    (run_from-append frame place stage (to_rgb_step pair) (from_rgb_step pair) start
-    ∙ ap (run_from frame place second (from_rgb_step pair)) (to_rgb-run frame place stage pair.from e)
-    ∙ from_rgb-run frame place second pair.to (rgb_values pair.from e) valid.to_matrix)
-    ∙ last_run frame place third pair (target_values pair.to (rgb_values pair.from e))
+    run_from-append frame position stage (to_rgb_step pair ++ from_rgb_step pair) (last_steps pair) start
+    ∙ ap (run_from frame position third (last_steps pair))
+    (run_from-append frame position stage (to_rgb_step pair) (from_rgb_step pair) start
+    ∙ ap (run_from frame position second (from_rgb_step pair)) (to_rgb-run frame position stage pair.from e)
+    ∙ from_rgb-run frame position second pair.to (rgb_values pair.from e) valid.to_matrix)
+    ∙ last_run frame position third pair (target_values pair.to (rgb_values pair.from e))
 
-first_steps : (frame : List ℕ) (place : PixelPosition) (stage : Stage) (side : Side) (rest : List Op) (code : ℕ → ℕ)
-    → run_from frame place stage (Convert Rat Bool.false ∷ from_codes side ∷ rest) (Numbers (four code))
-    ≡ run_from frame place (stage_after (Typed Rat) (from_codes side)) rest (apply frame place (Typed Rat) (from_codes side) (Fractions (four (λ c. nat (code c)))))
+first_steps : (frame : List ℕ) (position : PixelPosition) (stage : Stage) (side : Side) (rest : List Op) (code : ℕ → ℕ)
+    → run_from frame position stage (Convert Rat Bool.false ∷ from_codes side ∷ rest) (Numbers (four code))
+    ≡ run_from frame position (stage_after (Typed Rat) (from_codes side)) rest
+    (apply frame position (Typed Rat) (from_codes side) (Fractions (four (λ c. nat (code c)))))
 unfolding run_from apply stage_after
-first_steps frame place stage side rest code = refl
+first_steps frame position stage side rest code = refl
 
 -- Converting gives the coded values from the codes of the source.
-pub convert_run : (pair : Pair) (frame : List ℕ) (place : PixelPosition) (stage : Stage) → IsValidPair pair
-    → run_from frame place stage (convert pair) (Numbers (four (code_of pair.from.desc place.width place.rows frame place.x place.row)))
-    ≡ Fractions (four (coded pair place.width place.rows frame place.x place.row place.y))
+pub convert_run : (pair : Pair) (frame : List ℕ) (position : PixelPosition) (stage : Stage) → IsValidPair pair
+    → run_from frame position stage (convert pair)
+    (Numbers (four (code_of pair.from.desc position.width position.rows frame position.x position.row)))
+    ≡ Fractions (four (coded pair position.width position.rows frame position.x position.row position.y))
 unfolding convert coded
-convert_run pair frame place stage valid =
+convert_run pair frame position stage valid =
     let rest = to_rgb_step pair ++ from_rgb_step pair ++ last_steps pair in
-    let code = code_of pair.from.desc place.width place.rows frame place.x place.row in
+    let code = code_of pair.from.desc position.width position.rows frame position.x position.row in
     let after = stage_after (Typed Rat) (from_codes pair.from) in
-    first_steps frame place stage pair.from rest code
-    ∙ ap (run_from frame place after rest) (from_codes-applied frame place (Typed Rat) pair.from (λ c. nat (code c)) ∙ source_read pair.from frame place valid.from)
-    ∙ middle_run frame place after pair (source_values pair.from place.width place.rows frame place.x place.row) valid
+    first_steps frame position stage pair.from rest code
+    ∙ ap (run_from frame position after rest)
+    (from_codes-applied frame position (Typed Rat) pair.from (λ c. nat (code c)) ∙ source_read pair.from frame position valid.from)
+    ∙ middle_run frame position after pair (source_values pair.from position.width position.rows frame position.x position.row) valid
 
-first_stage : (pair : Pair) (stage : Stage) (rest : List Op) → stage_from stage (Convert Rat Bool.false ∷ from_codes pair.from ∷ rest) ≡ stage_from (stage_after (Typed Rat) (from_codes pair.from)) rest
+first_stage : (pair : Pair) (stage : Stage) (rest : List Op)
+    → stage_from stage (Convert Rat Bool.false ∷ from_codes pair.from ∷ rest)
+    ≡ stage_from (stage_after (Typed Rat) (from_codes pair.from)) rest
 unfolding stage_from stage_after
 first_stage pair stage rest = refl
 
-ended : (pair : Pair) (stage : Stage) → stage_from stage (Dither pair.dither ∷ Max (limits pair.to.desc (λ c. nat 0)) ∷ Min (limits pair.to.desc (λ c. nat (2 ^ channel_depth pair.to.desc c - 1))) ∷ []) ≡ stage
+ended : (pair : Pair) (stage : Stage) → stage_from stage
+    (Dither pair.dither ∷ Max (limits pair.to.desc (λ c. nat 0)) ∷ Min
+    (limits pair.to.desc (λ c. nat (2 ^ channel_depth pair.to.desc c - 1))) ∷ []) ≡ stage
 unfolding stage_from stage_after
 ended pair stage = refl
 
@@ -162,26 +183,30 @@ convert_stage pair stage =
     ∙ stage_from-append (Typed Rat) (to_rgb_step pair ++ from_rgb_step pair) (last_steps pair)
     ∙ ap (λ s. stage_from s (last_steps pair))
     (stage_from-append (Typed Rat) (to_rgb_step pair) (from_rgb_step pair)
-    ∙ ap (λ s. stage_from s (from_rgb_step pair)) (only_if-stage (Typed Rat) (not (is_rgb pair.from.desc)) (over_three (to_rgb_rows pair.from.matrix)))
+    ∙ ap (λ s. stage_from s (from_rgb_step pair))
+    (only_if-stage (Typed Rat) (not (is_rgb pair.from.desc)) (over_three (to_rgb_rows pair.from.matrix)))
     ∙ only_if-stage (Typed Rat) (not (is_rgb pair.to.desc)) (over_three (from_rgb_rows pair.to.matrix)))
     ∙ last_stage pair
 
 -- what converting gives at a pixel: values for the encoding, and their floors
-pub record ConvertGives (pair : Pair) (frame : List ℕ) (place : PixelPosition) (stage : Stage) (first : ℕ) : Type 0 where
-  pub values : run_from frame place stage (convert pair) (Numbers (four (code_of pair.from.desc place.width place.rows frame place.x place.row)))
-      ≡ Fractions (four (coded pair place.width place.rows frame place.x place.row place.y))
+pub record ConvertGives (pair : Pair) (frame : List ℕ) (position : PixelPosition) (stage : Stage) (first : ℕ) : Type 0 where
+  pub values : run_from frame position stage (convert pair)
+      (Numbers (four (code_of pair.from.desc position.width position.rows frame position.x position.row)))
+      ≡ Fractions (four (coded pair position.width position.rows frame position.x position.row position.y))
   pub floors : (j : ℕ) → j < pair.to.desc.count
-      → floor (coded pair place.width place.rows frame place.x place.row place.y (channel_of pair.to.desc j)) ≡ pos (result_of pair place.width place.rows first frame j place.x place.row)
+      → floor (coded pair position.width position.rows frame position.x position.row position.y (channel_of pair.to.desc j))
+      ≡ pos (result_of pair position.width position.rows first frame j position.x position.row)
   pub rational : stage_from stage (convert pair) ≡ Typed Rat
 
-pub convert_gives : (pair : Pair) (frame : List ℕ) (place : PixelPosition) (stage : Stage) (first : ℕ) → IsValidPair pair → pair.to.desc.palette ≡ false → place.y ≡ first + place.row
-    → ConvertGives pair frame place stage first
-convert_gives pair frame place stage first valid none here =
+pub convert_gives : (pair : Pair) (frame : List ℕ) (position : PixelPosition) (stage : Stage) (first : ℕ) → IsValidPair pair
+    → pair.to.desc.palette ≡ false → position.y ≡ first + position.row
+    → ConvertGives pair frame position stage first
+convert_gives pair frame position stage first valid none here =
     let counted : component_count pair.to.desc ≡ pair.to.desc.count = cond-false pair.to.desc.palette 4 pair.to.desc.count none in
     record {
-      values = convert_run pair frame place stage valid;
+      values = convert_run pair frame position stage valid;
       floors = λ j listed.
-          ap (λ y. floor (coded pair place.width place.rows frame place.x place.row y (channel_of pair.to.desc j))) here
-          ∙ coded_floor pair place.width place.rows first frame j place.x place.row valid (omega (arith, counted));
+          ap (λ y. floor (coded pair position.width position.rows frame position.x position.row y (channel_of pair.to.desc j))) here
+          ∙ coded_floor pair position.width position.rows first frame j position.x position.row valid (omega (arith, counted));
       rational = convert_stage pair stage;
     }

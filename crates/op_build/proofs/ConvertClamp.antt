@@ -17,11 +17,13 @@ clamped_not_negative : (z : ℤ) (n : ℕ) → pos 0 ≤ℤ int_min (int_max z (
 clamped_not_negative z n = omega (arith, ints, clamps)
 
 -- to limit before the floor is to limit after it
-pub limits_before_floor : (x : ℚ) (least most : ℤ) → floor (min_ℚ (max_ℚ x (whole least)) (whole most)) ≡ int_min (int_max (floor x) least) most
+pub limits_before_floor : (x : ℚ) (least most : ℤ)
+    → floor (min_ℚ (max_ℚ x (whole least)) (whole most)) ≡ int_min (int_max (floor x) least) most
 limits_before_floor x least most = floor_min (max_ℚ x (whole least)) most ∙ ap (λ z. int_min z most) (floor_max x least)
 
 -- so a value that is limited to the codes of a depth has the clamped floor
-pub floor_limited : (x : ℚ) (depth : ℕ) → floor (at_most (Some (nat (2 ^ depth - 1))) (at_least (Some (nat 0)) x)) ≡ pos (clamped depth (floor x))
+pub floor_limited : (x : ℚ) (depth : ℕ)
+    → floor (at_most (Some (nat (2 ^ depth - 1))) (at_least (Some (nat 0)) x)) ≡ pos (clamped depth (floor x))
 unfolding clamped
 floor_limited x depth =
     limits_before_floor x (pos 0) (pos (2 ^ depth - 1))

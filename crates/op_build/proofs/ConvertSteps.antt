@@ -22,7 +22,8 @@ use Rattle.op_list.specs.Values.{four}
 use Rattle.op_list.specs.Apply.{apply}
 use Rattle.op_list.specs.Run.{run_from}
 use Rattle.op_list.specs.Typing.{stage_after, stage_from}
-use Rattle.op_build.specs.Recipe.{only_if, channel_levels, are_plain, diagonal, over_three, from_codes, to_codes}
+use Rattle.pix_meaning.specs.Channels.{channel_levels}
+use Rattle.op_build.specs.Recipe.{only_if, are_plain, diagonal, over_three, from_codes, to_codes}
 
 pub same_fractions : (a b c d e f g h : ℚ) → a ≡ e → b ≡ f → c ≡ g → d ≡ h → Fractions (a ∷ b ∷ c ∷ d ∷ []) ≡ Fractions (e ∷ f ∷ g ∷ h ∷ [])
 same_fractions a b c d e f g h p q r s = λ i. Fractions (p i ∷ q i ∷ r i ∷ s i ∷ [])
@@ -49,10 +50,11 @@ row_3 s k a b c d =
     let o = num (pos 0) in
     ring fractions (s ∷ k ∷ a ∷ b ∷ c ∷ d ∷ []) (var 1 ⊕ o ⊗ var 2 ⊕ o ⊗ var 3 ⊕ o ⊗ var 4 ⊕ var 0 ⊗ var 5) (var 0 ⊗ var 5 ⊕ var 1) refl
 
-diagonal_applied : (frame : List ℕ) (place : PixelPosition) (stage : Stage) (scale constant f : ℕ → ℚ)
-    → apply frame place stage (Linear (diagonal scale constant)) (Fractions (four f)) ≡ Fractions (four (λ c. scale c *ℚ f c +ℚ constant c))
+diagonal_applied : (frame : List ℕ) (position : PixelPosition) (stage : Stage) (scale constant f : ℕ → ℚ)
+    → apply frame position stage (Linear (diagonal scale constant)) (Fractions (four f))
+    ≡ Fractions (four (λ c. scale c *ℚ f c +ℚ constant c))
 unfolding apply
-diagonal_applied frame place stage scale constant f =
+diagonal_applied frame position stage scale constant f =
     same_fractions _ _ _ _ _ _ _ _
     (row_0 (scale 0) (constant 0) (f 0) (f 1) (f 2) (f 3))
     (row_1 (scale 1) (constant 1) (f 0) (f 1) (f 2) (f 3))
@@ -105,67 +107,68 @@ linear_to l e = refl
 -- ---- from codes to values, and back, by whichever operation
 
 abbrev from_op : Bool → (ℕ → Levels) → Op
-from_op plain l = if plain then Scale (nat 1 /ℚ (l 0).scale) else Linear (diagonal (λ c. nat 1 /ℚ (l c).scale) (λ c. neg_ℚ (l c).base /ℚ (l c).scale))
+from_op plain l =
+    if plain then Scale (nat 1 /ℚ (l 0).scale) else Linear (diagonal (λ c. nat 1 /ℚ (l c).scale) (λ c. neg_ℚ (l c).base /ℚ (l c).scale))
 
 abbrev to_op : Bool → (ℕ → Levels) → Op
 to_op plain l = if plain then Scale (l 0).scale else Linear (diagonal (λ c. (l c).scale) (λ c. (l c).base))
 
-from_plain : (frame : List ℕ) (place : PixelPosition) (stage : Stage) (l : ℕ → Levels) (f : ℕ → ℚ) → IsPlain l
-    → apply frame place stage (from_op true l) (Fractions (four f)) ≡ Fractions (four (λ c. from_code (l c) (f c)))
+from_plain : (frame : List ℕ) (position : PixelPosition) (stage : Stage) (l : ℕ → Levels) (f : ℕ → ℚ) → IsPlain l
+    → apply frame position stage (from_op true l) (Fractions (four f)) ≡ Fractions (four (λ c. from_code (l c) (f c)))
 unfolding apply
-from_plain frame place stage l f p =
+from_plain frame position stage l f p =
     same_fractions _ _ _ _ _ _ _ _
     (scaled_from (l 0) (f 0) (l 0).scale refl p.base0)
     (scaled_from (l 1) (f 1) (l 0).scale p.scale1 p.base1)
     (scaled_from (l 2) (f 2) (l 0).scale p.scale2 p.base2)
     (scaled_from (l 3) (f 3) (l 0).scale p.scale3 p.base3)
 
-from_linear : (frame : List ℕ) (place : PixelPosition) (stage : Stage) (l : ℕ → Levels) (f : ℕ → ℚ)
-    → apply frame place stage (from_op false l) (Fractions (four f)) ≡ Fractions (four (λ c. from_code (l c) (f c)))
-from_linear frame place stage l f =
-    diagonal_applied frame place stage (λ c. nat 1 /ℚ (l c).scale) (λ c. neg_ℚ (l c).base /ℚ (l c).scale) f
+from_linear : (frame : List ℕ) (position : PixelPosition) (stage : Stage) (l : ℕ → Levels) (f : ℕ → ℚ)
+    → apply frame position stage (from_op false l) (Fractions (four f)) ≡ Fractions (four (λ c. from_code (l c) (f c)))
+from_linear frame position stage l f =
+    diagonal_applied frame position stage (λ c. nat 1 /ℚ (l c).scale) (λ c. neg_ℚ (l c).base /ℚ (l c).scale) f
     ∙ same_fractions _ _ _ _ _ _ _ _ (linear_from (l 0) (f 0)) (linear_from (l 1) (f 1)) (linear_from (l 2) (f 2)) (linear_from (l 3) (f 3))
 
-pub from_codes-applied : (frame : List ℕ) (place : PixelPosition) (stage : Stage) (side : Side) (f : ℕ → ℚ)
-    → apply frame place stage (from_codes side) (Fractions (four f)) ≡ Fractions (four (λ c. from_code (channel_levels side c) (f c)))
+pub from_codes-applied : (frame : List ℕ) (position : PixelPosition) (stage : Stage) (side : Side) (f : ℕ → ℚ)
+    → apply frame position stage (from_codes side) (Fractions (four f)) ≡ Fractions (four (λ c. from_code (channel_levels side c) (f c)))
 unfolding from_codes
-from_codes-applied frame place stage side f =
+from_codes-applied frame position stage side f =
     ⊎_elim
     (λ (plain : are_plain (channel_levels side) ≡ true).
-    ap (λ b. apply frame place stage (from_op b (channel_levels side)) (Fractions (four f))) plain
-    ∙ from_plain frame place stage (channel_levels side) f (plain_is side plain))
+    ap (λ b. apply frame position stage (from_op b (channel_levels side)) (Fractions (four f))) plain
+    ∙ from_plain frame position stage (channel_levels side) f (plain_is side plain))
     (λ (not_plain : are_plain (channel_levels side) ≡ false).
-    ap (λ b. apply frame place stage (from_op b (channel_levels side)) (Fractions (four f))) not_plain
-    ∙ from_linear frame place stage (channel_levels side) f)
+    ap (λ b. apply frame position stage (from_op b (channel_levels side)) (Fractions (four f))) not_plain
+    ∙ from_linear frame position stage (channel_levels side) f)
     (cases_Bool (are_plain (channel_levels side)))
 
-to_plain : (frame : List ℕ) (place : PixelPosition) (stage : Stage) (l : ℕ → Levels) (f : ℕ → ℚ) → IsPlain l
-    → apply frame place stage (to_op true l) (Fractions (four f)) ≡ Fractions (four (λ c. to_code (l c) (f c)))
+to_plain : (frame : List ℕ) (position : PixelPosition) (stage : Stage) (l : ℕ → Levels) (f : ℕ → ℚ) → IsPlain l
+    → apply frame position stage (to_op true l) (Fractions (four f)) ≡ Fractions (four (λ c. to_code (l c) (f c)))
 unfolding apply
-to_plain frame place stage l f p =
+to_plain frame position stage l f p =
     same_fractions _ _ _ _ _ _ _ _
     (scaled_to (l 0) (f 0) (l 0).scale refl p.base0)
     (scaled_to (l 1) (f 1) (l 0).scale p.scale1 p.base1)
     (scaled_to (l 2) (f 2) (l 0).scale p.scale2 p.base2)
     (scaled_to (l 3) (f 3) (l 0).scale p.scale3 p.base3)
 
-to_linear : (frame : List ℕ) (place : PixelPosition) (stage : Stage) (l : ℕ → Levels) (f : ℕ → ℚ)
-    → apply frame place stage (to_op false l) (Fractions (four f)) ≡ Fractions (four (λ c. to_code (l c) (f c)))
-to_linear frame place stage l f =
-    diagonal_applied frame place stage (λ c. (l c).scale) (λ c. (l c).base) f
+to_linear : (frame : List ℕ) (position : PixelPosition) (stage : Stage) (l : ℕ → Levels) (f : ℕ → ℚ)
+    → apply frame position stage (to_op false l) (Fractions (four f)) ≡ Fractions (four (λ c. to_code (l c) (f c)))
+to_linear frame position stage l f =
+    diagonal_applied frame position stage (λ c. (l c).scale) (λ c. (l c).base) f
     ∙ same_fractions _ _ _ _ _ _ _ _ (linear_to (l 0) (f 0)) (linear_to (l 1) (f 1)) (linear_to (l 2) (f 2)) (linear_to (l 3) (f 3))
 
-pub to_codes-applied : (frame : List ℕ) (place : PixelPosition) (stage : Stage) (side : Side) (f : ℕ → ℚ)
-    → apply frame place stage (to_codes side) (Fractions (four f)) ≡ Fractions (four (λ c. to_code (channel_levels side c) (f c)))
+pub to_codes-applied : (frame : List ℕ) (position : PixelPosition) (stage : Stage) (side : Side) (f : ℕ → ℚ)
+    → apply frame position stage (to_codes side) (Fractions (four f)) ≡ Fractions (four (λ c. to_code (channel_levels side c) (f c)))
 unfolding to_codes
-to_codes-applied frame place stage side f =
+to_codes-applied frame position stage side f =
     ⊎_elim
     (λ (plain : are_plain (channel_levels side) ≡ true).
-    ap (λ b. apply frame place stage (to_op b (channel_levels side)) (Fractions (four f))) plain
-    ∙ to_plain frame place stage (channel_levels side) f (plain_is side plain))
+    ap (λ b. apply frame position stage (to_op b (channel_levels side)) (Fractions (four f))) plain
+    ∙ to_plain frame position stage (channel_levels side) f (plain_is side plain))
     (λ (not_plain : are_plain (channel_levels side) ≡ false).
-    ap (λ b. apply frame place stage (to_op b (channel_levels side)) (Fractions (four f))) not_plain
-    ∙ to_linear frame place stage (channel_levels side) f)
+    ap (λ b. apply frame position stage (to_op b (channel_levels side)) (Fractions (four f))) not_plain
+    ∙ to_linear frame position stage (channel_levels side) f)
     (cases_Bool (are_plain (channel_levels side)))
 
 -- ---- neither changes the type
@@ -173,53 +176,63 @@ to_codes-applied frame place stage side f =
 pub from_codes-stage : (stage : Stage) (side : Side) → stage_after stage (from_codes side) ≡ stage
 unfolding from_codes stage_after
 from_codes-stage stage side =
-    elim (are_plain (channel_levels side)) as (λ b. stage_after stage (from_op b (channel_levels side)) ≡ stage) [ true ↦ refl | false ↦ refl ]
+    elim (are_plain (channel_levels side)) as
+    (λ b. stage_after stage (from_op b (channel_levels side)) ≡ stage) [ true ↦ refl | false ↦ refl ]
 
 pub to_codes-stage : (stage : Stage) (side : Side) → stage_after stage (to_codes side) ≡ stage
 unfolding to_codes stage_after
 to_codes-stage stage side =
-    elim (are_plain (channel_levels side)) as (λ b. stage_after stage (to_op b (channel_levels side)) ≡ stage) [ true ↦ refl | false ↦ refl ]
+    elim (are_plain (channel_levels side)) as
+    (λ b. stage_after stage (to_op b (channel_levels side)) ≡ stage) [ true ↦ refl | false ↦ refl ]
 
 -- ---- rows over the first three values
 
 three_of_four : (a b c x y z w : ℚ) → nat 0 +ℚ a *ℚ x +ℚ b *ℚ y +ℚ c *ℚ z +ℚ nat 0 *ℚ w ≡ a *ℚ x +ℚ b *ℚ y +ℚ c *ℚ z
 three_of_four a b c x y z w =
     let o = num (pos 0) in
-    ring fractions (a ∷ b ∷ c ∷ x ∷ y ∷ z ∷ w ∷ []) (o ⊕ var 0 ⊗ var 3 ⊕ var 1 ⊗ var 4 ⊕ var 2 ⊗ var 5 ⊕ o ⊗ var 6) (var 0 ⊗ var 3 ⊕ var 1 ⊗ var 4 ⊕ var 2 ⊗ var 5) refl
+    ring fractions (a ∷ b ∷ c ∷ x ∷ y ∷ z ∷ w ∷ []) (o ⊕ var 0 ⊗ var 3 ⊕ var 1 ⊗ var 4 ⊕ var 2 ⊗ var 5 ⊕ o ⊗ var 6)
+    (var 0 ⊗ var 3 ⊕ var 1 ⊗ var 4 ⊕ var 2 ⊗ var 5) refl
 
 fourth_alone : (x y z w : ℚ) → nat 0 +ℚ nat 0 *ℚ x +ℚ nat 0 *ℚ y +ℚ nat 0 *ℚ z +ℚ nat 1 *ℚ w ≡ w
 fourth_alone x y z w =
     let o = num (pos 0) in
     ring fractions (x ∷ y ∷ z ∷ w ∷ []) (o ⊕ o ⊗ var 0 ⊕ o ⊗ var 1 ⊕ o ⊗ var 2 ⊕ num (pos 1) ⊗ var 3) (var 3) refl
 
-pub over_three-applied : (frame : List ℕ) (place : PixelPosition) (stage : Stage) (rows : List (List ℚ)) (e : Values)
-    → apply frame place stage (Linear (over_three rows)) (Fractions (four (value_at e))) ≡ Fractions (four (value_at (by_rows rows e)))
+pub over_three-applied : (frame : List ℕ) (position : PixelPosition) (stage : Stage) (rows : List (List ℚ)) (e : Values)
+    → apply frame position stage (Linear (over_three rows)) (Fractions (four (value_at e))) ≡ Fractions (four (value_at (by_rows rows e)))
 unfolding apply
-over_three-applied frame place stage rows e =
+over_three-applied frame position stage rows e =
     let row = λ (i : ℕ).
-    three_of_four (coefficient (row_at rows i) 0) (coefficient (row_at rows i) 1) (coefficient (row_at rows i) 2) e.first e.second e.third e.fourth in
+    three_of_four (coefficient (row_at rows i) 0) (coefficient (row_at rows i) 1)
+    (coefficient (row_at rows i) 2) e.first e.second e.third e.fourth in
     same_fractions _ _ _ _ _ _ _ _ (row 0) (row 1) (row 2) (fourth_alone e.first e.second e.third e.fourth)
 
-pub to_rgb-run : (frame : List ℕ) (place : PixelPosition) (stage : Stage) (side : Side) (e : Values)
-    → run_from frame place stage (only_if (not (is_rgb side.desc)) (Linear (over_three (to_rgb_rows side.matrix)))) (Fractions (four (value_at e)))
+pub to_rgb-run : (frame : List ℕ) (position : PixelPosition) (stage : Stage) (side : Side) (e : Values)
+    → run_from frame position stage (only_if (not (is_rgb side.desc)) (Linear (over_three (to_rgb_rows side.matrix))))
+    (Fractions (four (value_at e)))
     ≡ Fractions (four (value_at (rgb_values side e)))
 unfolding run_from rgb_values
-to_rgb-run frame place stage side e =
-    elim (is_rgb side.desc) as (λ b. run_from frame place stage (only_if (not b) (Linear (over_three (to_rgb_rows side.matrix)))) (Fractions (four (value_at e)))
+to_rgb-run frame position stage side e =
+    elim (is_rgb side.desc) as
+    (λ b. run_from frame position stage (only_if (not b) (Linear (over_three (to_rgb_rows side.matrix)))) (Fractions (four (value_at e)))
     ≡ Fractions (four (value_at (if b then e else to_rgb side.matrix e)))) [
       | true ↦ refl
-      | false ↦ over_three-applied frame place stage (to_rgb_rows side.matrix) e ∙ ap (λ v. Fractions (four (value_at v))) (by_rows-to_rgb_rows side.matrix e)
+      | false ↦ over_three-applied frame position stage (to_rgb_rows side.matrix) e
+          ∙ ap (λ v. Fractions (four (value_at v))) (by_rows-to_rgb_rows side.matrix e)
     ]
 
-pub from_rgb-run : (frame : List ℕ) (place : PixelPosition) (stage : Stage) (side : Side) (e : Values) → IsMatrix side.matrix
-    → run_from frame place stage (only_if (not (is_rgb side.desc)) (Linear (over_three (from_rgb_rows side.matrix)))) (Fractions (four (value_at e)))
+pub from_rgb-run : (frame : List ℕ) (position : PixelPosition) (stage : Stage) (side : Side) (e : Values) → IsMatrix side.matrix
+    → run_from frame position stage (only_if (not (is_rgb side.desc)) (Linear (over_three (from_rgb_rows side.matrix))))
+    (Fractions (four (value_at e)))
     ≡ Fractions (four (value_at (target_values side e)))
 unfolding run_from target_values
-from_rgb-run frame place stage side e matrix =
-    elim (is_rgb side.desc) as (λ b. run_from frame place stage (only_if (not b) (Linear (over_three (from_rgb_rows side.matrix)))) (Fractions (four (value_at e)))
+from_rgb-run frame position stage side e matrix =
+    elim (is_rgb side.desc) as
+    (λ b. run_from frame position stage (only_if (not b) (Linear (over_three (from_rgb_rows side.matrix)))) (Fractions (four (value_at e)))
     ≡ Fractions (four (value_at (if b then e else from_rgb side.matrix e)))) [
       | true ↦ refl
-      | false ↦ over_three-applied frame place stage (from_rgb_rows side.matrix) e ∙ ap (λ v. Fractions (four (value_at v))) (by_rows-from_rgb_rows side.matrix e matrix)
+      | false ↦ over_three-applied frame position stage (from_rgb_rows side.matrix) e
+          ∙ ap (λ v. Fractions (four (value_at v))) (by_rows-from_rgb_rows side.matrix e matrix)
     ]
 
 pub only_if-stage : (stage : Stage) (needed : Bool) (rows : List (List ℚ)) → stage_from stage (only_if needed (Linear rows)) ≡ stage

@@ -12,18 +12,20 @@ use Rattle.op_list.specs.Values.{four, no_values}
 use Rattle.op_list.specs.Run.{run_from}
 use Rattle.op_list.specs.Typing.{stage_from}
 use Rattle.op_build.specs.Recipe.{decode}
-use Rattle.op_build.specs.Shape.{element_type}
-use Rattle.op_build.specs.Codes.{code_of, decoded_type, GivesCodes, IsWholeTyped}
+use Rattle.op_build.specs.ElementType.{element_type}
+use Rattle.pix_meaning.specs.Channels.{code_of}
+use Rattle.op_build.specs.Codes.{decoded_type, GivesCodes, IsWholeTyped}
 use Rattle.op_build.proofs.DecodePlain.{decode_plain, stage_plain}
 use Rattle.op_build.proofs.DecodePalette.{decode_palette, stage_palette}
-use Rattle.op_build.proofs.Shapes.{has_type}
+use Rattle.op_build.proofs.ElementTypes.{has_type}
 
-pub decode_gives : (desc : Desc) (frame : List ℕ) (place : PixelPosition) → IsValid desc → All (λ byte. byte < 256) frame
-    → run_from frame place Start (decode desc) no_values ≡ Numbers (four (code_of desc place.width place.rows frame place.x place.row))
-decode_gives desc frame place valid bytes =
+pub decode_gives : (desc : Desc) (frame : List ℕ) (position : PixelPosition) → IsValid desc → All (λ byte. byte < 256) frame
+    → run_from frame position Start (decode desc) no_values
+    ≡ Numbers (four (code_of desc position.width position.rows frame position.x position.row))
+decode_gives desc frame position valid bytes =
     ⊎_elim
-    (λ palette. decode_palette desc frame place valid palette bytes)
-    (λ none. decode_plain desc frame place valid none bytes)
+    (λ palette. decode_palette desc frame position valid palette bytes)
+    (λ none. decode_plain desc frame position valid none bytes)
     (cases_Bool desc.palette)
 
 pub decode_stage : (desc : Desc) → IsValid desc → stage_from Start (decode desc) ≡ Typed (decoded_type desc)
@@ -40,8 +42,8 @@ decoded_type-whole desc valid =
     (λ none. ap is_whole_type (cond-false desc.palette U8 (element_type desc) none) ∙ (has_type desc valid).whole)
     (cases_Bool desc.palette)
 
-pub gives_codes : (desc : Desc) (frame : List ℕ) (place : PixelPosition) → GivesCodes desc frame place
-gives_codes desc frame place = λ valid bytes. decode_gives desc frame place valid bytes
+pub gives_codes : (desc : Desc) (frame : List ℕ) (position : PixelPosition) → GivesCodes desc frame position
+gives_codes desc frame position = λ valid bytes. decode_gives desc frame position valid bytes
 
 pub whole_typed : (desc : Desc) → IsWholeTyped desc
 whole_typed desc = λ valid. record { stage = decode_stage desc valid; whole = decoded_type-whole desc valid }

@@ -1,7 +1,9 @@
 -- Decoding gives the codes of the channels of a palette's entries.
-use Rattle.std.proofs.Common.{◌≡◌, ℕ, zero, suc, ◌+◌, ◌-◌, ◌*◌, ◌/◌, ◌%◌, ◌^◌, ◌<◌, ⊎_elim, pos, ◌+ℤ◌, Bool, true, false, not, ◌&&◌, ◌||◌, if◌then◌else◌, nat_eq, nat_le, List, [], ◌∷◌, All, get_or, eqb-true, Some, None, sym, refl, ap, ◌∙◌, arith}
+use Rattle.std.proofs.Common.{◌≡◌, ℕ, zero, suc, ◌+◌, ◌-◌, ◌*◌, ◌/◌, ◌%◌, ◌^◌, ◌<◌, ⊎_elim, pos, ◌+ℤ◌, Bool, true, false, not, ◌&&◌, ◌||◌}
+use Rattle.std.proofs.Common.{if◌then◌else◌, nat_eq, nat_le, List, [], ◌∷◌, All, get_or, eqb-true, Some, None, sym, refl, ap, ◌∙◌, arith}
 use Rattle.std.specs.Ordering.{int_eq}
-use Rattle.std.proofs.lemmas.Bool.{and_parts, and_cases, and_left, or_parts, or_left, or_right, both_ways, not-true, not-false, cond-true, cond-false}
+use Rattle.std.proofs.lemmas.Bool.{and_parts, and_cases, and_left, or_parts, or_left, or_right, both_ways, not-true, not-false, cond-true}
+use Rattle.std.proofs.lemmas.Bool.{cond-false}
 use Rattle.std.proofs.lemmas.Bool.Decides.{Decides-int_eq}
 use Rattle.frac_math.specs.Fraction.{nat}
 use Rattle.pix_desc.specs.declared.desc.Comp.{Comp}
@@ -24,11 +26,13 @@ use Rattle.op_list.specs.Pixel.{number_at, palette_colours, pixel_count, pixel_n
 use Rattle.op_list.specs.Apply.{cleared_number}
 use Rattle.op_list.specs.Run.{run_from}
 use Rattle.op_list.specs.Typing.{stage_from, stage_after}
-use Rattle.op_build.specs.Recipe.{decode, missing_code, missing_codes, split, from_places}
-use Rattle.op_build.specs.Shape.{element_type, element_counts, is_swapped}
+use Rattle.pix_meaning.specs.Channels.{missing_code}
+use Rattle.op_build.specs.Recipe.{decode, missing_codes, split, channel_slots}
+use Rattle.pix_desc.specs.Shape.{element_counts}
+use Rattle.op_build.specs.ElementType.{element_type, is_swapped}
 use Rattle.op_build.proofs.ByteNumbers.{in_order}
-use Rattle.op_build.proofs.Codes.{code_of-there}
-use Rattle.op_build.specs.Codes.{code_of}
+use Rattle.pix_meaning.proofs.ChannelCodes.{code_of-there}
+use Rattle.pix_meaning.specs.Channels.{code_of}
 use Rattle.op_build.proofs.DecodeRuns.{decode_by, run_palette}
 use Rattle.op_build.proofs.ElementStarts.{word_begins}
 use Rattle.op_build.proofs.FieldValues.{element_field}
@@ -52,18 +56,23 @@ read_of c shift depth = ap (λ s. if nat_le (s + c.depth) 8 then 1 else 2) shift
 
 first_of : (desc : Desc) (c : Comp) → desc.be ≡ false → int_eq c.offset (pos 0) ≡ true → count_of (first_byte desc c) ≡ 0
 first_of desc c order at =
-    ap count_of (cond-false (desc.be && is_narrow c) (c.offset +ℤ pos 1) c.offset (and_left desc.be (is_narrow c) order)) ∙ ap count_of ((Decides-int_eq c.offset (pos 0)).0 at)
+    ap count_of (cond-false (desc.be && is_narrow c) (c.offset +ℤ pos 1) c.offset (and_left desc.be (is_narrow c) order))
+    ∙ ap count_of ((Decides-int_eq c.offset (pos 0)).0 at)
 
 pub is_byte_format : (desc : Desc) → IsValid desc → desc.palette ≡ true → IsByte desc
 is_byte_format desc valid palette =
     let passed = has_no_fault desc valid in
-    let mixed = (or_parts (some_pair desc differ_in_step || not (is_elements desc || is_word desc)) (desc.palette && not (is_index desc)) passed.unmixed).1 in
+    let mixed = (or_parts (some_pair desc differ_in_step || not (is_elements desc || is_word desc))
+    (desc.palette && not (is_index desc)) passed.unmixed).1 in
     let index : is_index desc ≡ true =
-    ⊎_elim (λ none. absurd (both_ways desc.palette none palette)) (λ has. not-false (is_index desc) has) (and_cases desc.palette (not (is_index desc)) mixed) in
+    ⊎_elim (λ none. absurd (both_ways desc.palette none palette)) (λ has. not-false (is_index desc) has)
+    (and_cases desc.palette (not (is_index desc)) mixed) in
     let c = component_of desc 0 in
     let parts = and_parts (not desc.be) (not (some_component desc (λ d. not (is_byte d)))) index in
     let order = not-true desc.be parts.0 in
-    let byte = not-false (is_byte c) (some_component-false desc (λ d. not (is_byte d)) 0 (not-true (some_component desc (λ d. not (is_byte d))) parts.1) (laid_out desc valid).some) in
+    let byte = not-false (is_byte c)
+    (some_component-false desc (λ d. not (is_byte d)) 0 (not-true (some_component desc (λ d. not (is_byte d))) parts.1)
+    (laid_out desc valid).some) in
     let p4 = and_parts (nat_eq c.plane 0 && nat_eq c.step 1 && int_eq c.offset (pos 0) && nat_eq c.shift 0) (nat_eq c.depth 8) byte in
     let p3 = and_parts (nat_eq c.plane 0 && nat_eq c.step 1 && int_eq c.offset (pos 0)) (nat_eq c.shift 0) p4.0 in
     let p2 = and_parts (nat_eq c.plane 0 && nat_eq c.step 1) (int_eq c.offset (pos 0)) p3.0 in
@@ -83,24 +92,31 @@ is_byte_format desc valid palette =
 byte_whole : (n : ℕ) → n < 256 → (n + 256 * 0) / 2 ^ 0 % 2 ^ 8 ≡ n
 byte_whole n small = omega arith
 
-module _ (desc : Desc) (frame : List ℕ) (place : PixelPosition) (valid : IsValid desc) (palette : desc.palette ≡ true) (all_bytes : All (λ byte. byte < 256) frame) where
+module _ (desc : Desc) (frame : List ℕ) (position : PixelPosition) (valid : IsValid desc) (palette : desc.palette ≡ true)
+    (all_bytes : All (λ byte. byte < 256) frame) where
   -- the index of a pixel
-  index_is : frame_component desc place.width place.rows frame 0 place.x place.row ≡ get_or frame (pixel_number place) 0
+  index_is : frame_component desc position.width position.rows frame 0 position.x position.row ≡ get_or frame (pixel_number position) 0
   index_is =
       let laid = laid_out desc valid in
       let is = is_byte_format desc valid palette in
       let c = component_of desc 0 in
-      let at = row_start desc place.width place.rows c.plane place.row + place.x * c.step + count_of (first_byte desc c) in
-      let begins : at ≡ pixel_number place =
-      omega (arith, word_begins desc place.width place.rows 0 place.x place.row laid laid.some is.plane, ap (λ s. (place.width * place.rows * 0 + pixel_number place * 1 + 0) * s) is.step, is.first) in
+      let at = row_start desc position.width position.rows c.plane position.row + position.x * c.step + count_of (first_byte desc c) in
+      let begins : at ≡ pixel_number position =
+      omega (
+        arith,
+        word_begins desc position.width position.rows 0 position.x position.row laid laid.some is.plane,
+        ap
+            (λ s. (position.width * position.rows * 0 + pixel_number position * 1 + 0) * s) is.step,
+        is.first,
+      ) in
       let number = λ (s : ℕ). number_at s frame at in
-      sym (element_field desc place.width place.rows frame 0 place.x place.row laid all_bytes laid.some)
+      sym (element_field desc position.width position.rows frame 0 position.x position.row laid all_bytes laid.some)
       ∙ ap (λ s. in_order desc.be s (number s) / 2 ^ c.shift % 2 ^ c.depth) is.read
       ∙ ap (λ b. in_order b 1 (number 1) / 2 ^ c.shift % 2 ^ c.depth) is.order
       ∙ ap (λ s. number 1 / 2 ^ s % 2 ^ c.depth) is.shift
       ∙ ap (λ d. number 1 / 2 ^ 0 % 2 ^ d) is.depth
       ∙ ap (λ t. number_at 1 frame t / 2 ^ 0 % 2 ^ 8) begins
-      ∙ byte_whole (get_or frame (pixel_number place) 0) (byte_below frame (pixel_number place) all_bytes)
+      ∙ byte_whole (get_or frame (pixel_number position) 0) (byte_below frame (pixel_number position) all_bytes)
 
   has_alpha : (rgb alpha : Bool) (n : ℕ) → is_count true rgb alpha n ≡ true → alpha ≡ true
   has_alpha true true n counted = refl
@@ -111,8 +127,11 @@ module _ (desc : Desc) (frame : List ℕ) (place : PixelPosition) (valid : IsVal
   has_all_channels : (c : ℕ) → c < 4 → has_channel desc c ≡ true
   has_all_channels zero below = refl
   has_all_channels (suc zero) below = or_left (desc.rgb || desc.palette) (nat_le 3 desc.count) (or_right desc.rgb desc.palette palette)
-  has_all_channels (suc (suc zero)) below = or_left (desc.rgb || desc.palette) (nat_le 3 desc.count) (or_right desc.rgb desc.palette palette)
-  has_all_channels (suc (suc (suc zero))) below = has_alpha desc.rgb desc.alpha desc.count (ap (λ p. is_count p desc.rgb desc.alpha desc.count) (sym palette) ∙ (has_no_fault desc valid).counted)
+  has_all_channels (suc (suc zero)) below =
+      or_left (desc.rgb || desc.palette) (nat_le 3 desc.count) (or_right desc.rgb desc.palette palette)
+  has_all_channels (suc (suc (suc zero))) below =
+      has_alpha desc.rgb desc.alpha desc.count
+      (ap (λ p. is_count p desc.rgb desc.alpha desc.count) (sym palette) ∙ (has_no_fault desc valid).counted)
   has_all_channels (suc (suc (suc (suc c)))) below = absurd (omega arith)
 
   component_is : (c : ℕ) → c < 4 → component_at desc c ≡ c
@@ -122,45 +141,52 @@ module _ (desc : Desc) (frame : List ℕ) (place : PixelPosition) (valid : IsVal
   component_is (suc (suc (suc zero))) below = ap (λ (p : Bool). (if p then 4 else desc.count) - 1) palette
   component_is (suc (suc (suc (suc c)))) below = absurd (omega arith)
 
-  colour_is : (c : ℕ) → c < 4 → get_or (palette_colours frame place) c 0 ≡ entry_component place.width place.rows frame (get_or frame (pixel_number place) 0) c
+  colour_is : (c : ℕ) → c < 4
+      → get_or (palette_colours frame position) c 0
+      ≡ entry_component position.width position.rows frame (get_or frame (pixel_number position) 0) c
   unfolding palette_colours
   colour_is zero below = refl
   colour_is (suc zero) below = refl
   colour_is (suc (suc zero)) below =
-      let at = pixel_count place + 4 * get_or frame (pixel_number place) 0 in
+      let at = pixel_count position + 4 * get_or frame (pixel_number position) 0 in
       let same : at ≡ at + 0 = omega arith in ap (λ t. get_or frame t 0) same
   colour_is (suc (suc (suc zero))) below = refl
   colour_is (suc (suc (suc (suc c)))) below = absurd (omega arith)
 
-  entry_is : (c : ℕ) → c < 4 → get_or (palette_colours frame place) c 0 ≡ source_component desc place.width place.rows frame (component_at desc c) place.x place.row
+  entry_is : (c : ℕ) → c < 4
+      → get_or (palette_colours frame position) c 0
+      ≡ source_component desc position.width position.rows frame (component_at desc c) position.x position.row
   unfolding source_component
   entry_is c below =
-      let index = frame_component desc place.width place.rows frame 0 place.x place.row in
+      let index = frame_component desc position.width position.rows frame 0 position.x position.row in
       colour_is c below
-      ∙ ap (λ i. entry_component place.width place.rows frame i c) (sym index_is)
-      ∙ ap (entry_component place.width place.rows frame index) (sym (component_is c below))
-      ∙ sym (cond-true desc.palette (entry_component place.width place.rows frame index (component_at desc c)) (frame_component desc place.width place.rows frame (component_at desc c) place.x place.row) palette)
+      ∙ ap (λ i. entry_component position.width position.rows frame i c) (sym index_is)
+      ∙ ap (entry_component position.width position.rows frame index) (sym (component_is c below))
+      ∙ sym (cond-true desc.palette (entry_component position.width position.rows frame index (component_at desc c))
+      (frame_component desc position.width position.rows frame (component_at desc c) position.x position.row) palette)
 
 pub decode_is : (desc : Desc) → desc.palette ≡ true → decode desc ≡ Read U8 (1 ∷ 0 ∷ 0 ∷ 0 ∷ []) true ∷ Clear (missing_codes desc) ∷ []
 unfolding decode
 decode_is desc palette =
     cond-true desc.palette (Read U8 (1 ∷ 0 ∷ 0 ∷ 0 ∷ []) true ∷ Clear (missing_codes desc) ∷ [])
-    (decode_by (element_type desc) (element_counts desc) (is_swapped desc) (split desc) (from_places desc) (missing_codes desc)) palette
+    (decode_by (element_type desc) (element_counts desc) (is_swapped desc) (split desc) (channel_slots desc) (missing_codes desc)) palette
 
-pub decode_palette : (desc : Desc) (frame : List ℕ) (place : PixelPosition) → IsValid desc → desc.palette ≡ true → All (λ byte. byte < 256) frame
-    → run_from frame place Start (decode desc) no_values ≡ Numbers (four (code_of desc place.width place.rows frame place.x place.row))
-decode_palette desc frame place valid palette all_bytes =
-    let colours = palette_colours frame place in
-    ap (λ ops. run_from frame place Start ops no_values) (decode_is desc palette)
-    ∙ run_palette frame place (missing_codes desc)
+pub decode_palette : (desc : Desc) (frame : List ℕ) (position : PixelPosition) → IsValid desc → desc.palette ≡ true
+    → All (λ byte. byte < 256) frame
+    → run_from frame position Start (decode desc) no_values
+    ≡ Numbers (four (code_of desc position.width position.rows frame position.x position.row))
+decode_palette desc frame position valid palette all_bytes =
+    let colours = palette_colours frame position in
+    ap (λ ops. run_from frame position Start ops no_values) (decode_is desc palette)
+    ∙ run_palette frame position (missing_codes desc)
     ∙ ap Numbers (same_four
     (λ c. cleared_number (if has_channel desc c then None else Some (nat (missing_code desc c))) (get_or colours c 0))
-    (code_of desc place.width place.rows frame place.x place.row)
+    (code_of desc position.width position.rows frame position.x position.row)
     (λ c below.
-    let there = has_all_channels desc frame place valid palette all_bytes c below in
+    let there = has_all_channels desc frame position valid palette all_bytes c below in
     ap (λ b. cleared_number (if b then None else Some (nat (missing_code desc c))) (get_or colours c 0)) there
-    ∙ entry_is desc frame place valid palette all_bytes c below
-    ∙ sym (code_of-there desc place.width place.rows frame place.x place.row c there)))
+    ∙ entry_is desc frame position valid palette all_bytes c below
+    ∙ sym (code_of-there desc position.width position.rows frame position.x position.row c there)))
 
 pub stage_palette : (desc : Desc) → desc.palette ≡ true → stage_from Start (decode desc) ≡ Typed U8
 unfolding stage_from stage_after

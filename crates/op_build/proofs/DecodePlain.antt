@@ -1,5 +1,6 @@
 -- Decoding gives the codes of the channels of a format without a palette.
-use Rattle.std.proofs.Common.{◌≡◌, ℕ, ◌+◌, ◌-◌, ◌*◌, ◌/◌, ◌%◌, ◌^◌, ◌<◌, ◌≤◌, ⊎_elim, Bool, true, false, not, ◌&&◌, nat_eq, List, [], ◌∷◌, All, get_or, sym, refl, ap, subst, ◌∙◌, arith}
+use Rattle.std.proofs.Common.{◌≡◌, ℕ, ◌+◌, ◌-◌, ◌*◌, ◌/◌, ◌%◌, ◌^◌, ◌<◌, ◌≤◌, ⊎_elim, Bool, true, false, not, ◌&&◌, nat_eq, List, [], ◌∷◌}
+use Rattle.std.proofs.Common.{All, get_or, sym, refl, ap, subst, ◌∙◌, arith}
 use Rattle.std.specs.Prelude.{sum}
 use Rattle.std.proofs.lemmas.Bool.{cases_eq, cond-true, cond-false, eq-eqb, ne_eqb}
 use Rattle.pix_desc.specs.declared.desc.Desc.{Desc}
@@ -22,18 +23,21 @@ use Rattle.op_list.specs.Pixel.{number_at, element_in, pixel_count, pixel_number
 use Rattle.op_list.specs.Apply.{cleared, swizzled}
 use Rattle.op_list.specs.Run.{run_from}
 use Rattle.op_list.specs.Typing.{stage_from}
-use Rattle.op_build.specs.Shape.{element_bytes, element_type, element_counts, element_index, field_widths, is_swapped, position_of}
-use Rattle.op_build.specs.Recipe.{decode, split, from_places, missing_codes}
+use Rattle.pix_desc.specs.Shape.{element_bytes, element_counts, element_index, field_widths, position_of}
+use Rattle.op_build.specs.ElementType.{element_type, is_swapped}
+use Rattle.op_build.specs.Recipe.{decode, split, channel_slots, missing_codes}
 use Rattle.op_build.proofs.ByteNumbers.{in_order, one_byte_in_order}
-use Rattle.op_build.proofs.Codes.{code_of-there, code_of-missing, plain_component, channel_listed, in_channels}
-use Rattle.op_build.specs.Codes.{code_of}
+use Rattle.pix_meaning.proofs.ChannelCodes.{code_of-there, code_of-missing, plain_component, channel_listed}
+use Rattle.op_build.proofs.Codes.{in_channels}
+use Rattle.pix_meaning.specs.Channels.{code_of}
 use Rattle.op_build.proofs.DecodeRuns.{decode_by, ordered_element, run_shifts, run_fields, stage_shifts, stage_fields}
-use Rattle.op_build.proofs.ElementPlaces.{HasElements, element_index-below}
+use Rattle.pix_desc.proofs.ElementSlots.{HasElements, element_index-below}
 use Rattle.op_build.proofs.ElementStarts.{element_of_at, element_begins, word_begins}
 use Rattle.op_build.proofs.FieldValues.{pixel_start, element_field, word_field, shifted_field}
-use Rattle.op_build.proofs.Shapes.{first_size, has_layout, has_places, HasType, element_position, element_type_is, word_type_is, component_field}
-use Rattle.op_build.proofs.WordBits.{number_end}
-use Rattle.op_build.proofs.WordShape.{HasWord}
+use Rattle.pix_desc.proofs.PixelSlots.{first_size, has_layout, has_slots, element_position, component_field}
+use Rattle.op_build.proofs.ElementTypes.{HasType, element_type_is, word_type_is}
+use Rattle.pix_desc.proofs.WordBits.{number_end}
+use Rattle.pix_desc.proofs.WordShape.{HasWord}
 
 -- a number of one byte needs no turning round
 swap_needed : (frame : List ℕ) (be : Bool) (size at : ℕ) → ((k : ℕ) → get_or frame k 0 < 256)
@@ -49,21 +53,23 @@ swap_needed frame true size at bytes =
     (cases_eq size 1)
 
 -- an element in the format's byte order, where it begins
-ordered_is : (desc : Desc) (frame counts : List ℕ) (place : PixelPosition) (i at size : ℕ) → HasType desc → ((k : ℕ) → get_or frame k 0 < 256) → element_bytes desc ≡ size
-    → i < sum counts → element_in (pixel_count place) (pixel_number place) 0 counts i * size ≡ at
-    → ordered_element (element_type desc) counts (is_swapped desc) frame place i ≡ in_order desc.be size (number_at size frame at)
-ordered_is desc frame counts place i at size typed small size_is within begins =
+ordered_is : (desc : Desc) (frame counts : List ℕ) (position : PixelPosition) (i at size : ℕ) → HasType desc
+    → ((k : ℕ) → get_or frame k 0 < 256) → element_bytes desc ≡ size
+    → i < sum counts → element_in (pixel_count position) (pixel_number position) 0 counts i * size ≡ at
+    → ordered_element (element_type desc) counts (is_swapped desc) frame position i ≡ in_order desc.be size (number_at size frame at)
+ordered_is desc frame counts position i at size typed small size_is within begins =
     let elem = element_type desc in
     let bytes_are : bytes elem ≡ size = typed.bytes ∙ size_is in
     ap (in_order (is_swapped desc) (bytes elem))
-    (element_of_at elem counts frame place i at within (ap (λ s. element_in (pixel_count place) (pixel_number place) 0 counts i * s) bytes_are ∙ begins))
+    (element_of_at elem counts frame position i at within
+    (ap (λ s. element_in (pixel_count position) (pixel_number position) 0 counts i * s) bytes_are ∙ begins))
     ∙ ap (λ s. in_order (is_swapped desc) s (number_at s frame at)) bytes_are
     ∙ ap (λ b. in_order b size (number_at size frame at)) (typed.swapped ∙ ap (λ s. desc.be && not (nat_eq s 1)) size_is)
     ∙ swap_needed frame desc.be size at small
 
-module _ (desc : Desc) (frame : List ℕ) (place : PixelPosition) (valid : IsValid desc) (all_bytes : All (λ byte. byte < 256) frame) where
+module _ (desc : Desc) (frame : List ℕ) (position : PixelPosition) (valid : IsValid desc) (all_bytes : All (λ byte. byte < 256) frame) where
   component_here : ℕ → ℕ
-  component_here j = frame_component desc place.width place.rows frame j place.x place.row
+  component_here j = frame_component desc position.width position.rows frame j position.x position.row
 
   small : (k : ℕ) → get_or frame k 0 < 256
   small k = byte_below frame k all_bytes
@@ -73,8 +79,9 @@ module _ (desc : Desc) (frame : List ℕ) (place : PixelPosition) (valid : IsVal
   module _ (is : HasElements desc (first_size desc)) where
     abbrev shifted : ℕ → ℕ
     shifted i =
-        ordered_element (element_type desc) (element_counts desc) (is_swapped desc) frame place i
-        * 2 ^ (bits (element_type desc) - (component_of desc 0).shift - (component_of desc 0).depth) % 2 ^ bits (element_type desc) / 2 ^ (bits (element_type desc) - (component_of desc 0).depth)
+        ordered_element (element_type desc) (element_counts desc) (is_swapped desc) frame position i
+        * 2 ^ (bits (element_type desc) - (component_of desc 0).shift - (component_of desc 0).depth) % 2 ^ bits (element_type desc) / 2 ^
+        (bits (element_type desc) - (component_of desc 0).depth)
 
     shifted_is : (j : ℕ) → j < desc.count → shifted (position_of desc j) ≡ component_here j
     unfolding component_here
@@ -84,33 +91,41 @@ module _ (desc : Desc) (frame : List ℕ) (place : PixelPosition) (valid : IsVal
         let typed = element_type_is desc is in
         let c = component_of desc j in
         let first = component_of desc 0 in
-        let at = pixel_start desc place.width place.rows frame j place.x place.row laid all_bytes listed + count_of (first_byte desc c) in
+        let at = pixel_start desc position.width position.rows frame j position.x position.row laid all_bytes listed + count_of
+        (first_byte desc c) in
         let index = element_index desc j in
         let number = in_order desc.be size (number_at size frame at) in
-        let room : first.shift + first.depth ≤ bits (element_type desc) = omega (arith, number_end desc laid 0 laid.some, typed.bits, is.bytes) in
+        let room : first.shift + first.depth ≤ bits (element_type desc) =
+        omega (arith, number_end desc laid 0 laid.some, typed.bits, is.bytes) in
         ap shifted (element_position desc j laid is listed)
-        ∙ ap (λ n. n * 2 ^ (bits (element_type desc) - first.shift - first.depth) % 2 ^ bits (element_type desc) / 2 ^ (bits (element_type desc) - first.depth))
-        (ordered_is desc frame (element_counts desc) place index at size typed small is.bytes (element_index-below desc size laid is j listed) (element_begins desc size laid is place j listed))
+        ∙ ap (λ n. n * 2 ^ (bits (element_type desc) - first.shift - first.depth) % 2 ^ bits (element_type desc) / 2 ^
+        (bits (element_type desc) - first.depth))
+        (ordered_is desc frame (element_counts desc) position index at size typed small is.bytes
+        (element_index-below desc size laid is j listed) (element_begins desc size laid is position j listed))
         ∙ shifted_field number first.shift first.depth (bits (element_type desc)) room
         ∙ ap (λ s. number / 2 ^ s % 2 ^ first.depth) (sym (is.shift j listed))
         ∙ ap (λ d. number / 2 ^ c.shift % 2 ^ d) (sym (is.depth j listed))
         ∙ ap (λ s. in_order desc.be s (number_at s frame at) / 2 ^ c.shift % 2 ^ c.depth) (sym (is.read j listed))
-        ∙ element_field desc place.width place.rows frame j place.x place.row laid all_bytes listed
+        ∙ element_field desc position.width position.rows frame j position.x position.row laid all_bytes listed
 
   -- ---- a word
 
   module _ (is : HasWord desc) where
     abbrev fielded : ℕ → ℕ
-    fielded i = field (field_widths desc) (ordered_element (element_type desc) (element_counts desc) (is_swapped desc) frame place 0) i
+    fielded i = field (field_widths desc) (ordered_element (element_type desc) (element_counts desc) (is_swapped desc) frame position 0) i
 
-    word_number : (j : ℕ) (listed : j < desc.count) → ordered_element (element_type desc) (element_counts desc) (is_swapped desc) frame place 0
-        ≡ in_order desc.be (component_of desc j).step (number_at (component_of desc j).step frame (pixel_start desc place.width place.rows frame j place.x place.row (laid_out desc valid) all_bytes listed))
+    word_number : (j : ℕ) (listed : j < desc.count)
+        → ordered_element (element_type desc) (element_counts desc) (is_swapped desc) frame position 0
+        ≡ in_order desc.be (component_of desc j).step
+        (number_at (component_of desc j).step frame
+        (pixel_start desc position.width position.rows frame j position.x position.row (laid_out desc valid) all_bytes listed))
     word_number j listed =
         let size = (component_of desc j).step in
-        let at = pixel_start desc place.width place.rows frame j place.x place.row (laid_out desc valid) all_bytes listed in
-        ap (λ counts. ordered_element (element_type desc) counts (is_swapped desc) frame place 0) is.counts
-        ∙ ordered_is desc frame (1 ∷ 0 ∷ 0 ∷ 0 ∷ []) place 0 at size (word_type_is desc is) small (is.bytes ∙ sym (is.step j listed)) (omega arith)
-        (word_begins desc place.width place.rows j place.x place.row (laid_out desc valid) listed (is.plane j listed))
+        let at = pixel_start desc position.width position.rows frame j position.x position.row (laid_out desc valid) all_bytes listed in
+        ap (λ counts. ordered_element (element_type desc) counts (is_swapped desc) frame position 0) is.counts
+        ∙ ordered_is desc frame (1 ∷ 0 ∷ 0 ∷ 0 ∷ []) position 0 at size (word_type_is desc is) small (is.bytes ∙ sym (is.step j listed))
+        (omega arith)
+        (word_begins desc position.width position.rows j position.x position.row (laid_out desc valid) listed (is.plane j listed))
 
     fielded_is : (j : ℕ) → j < desc.count → fielded (position_of desc j) ≡ component_here j
     unfolding component_here
@@ -118,44 +133,46 @@ module _ (desc : Desc) (frame : List ℕ) (place : PixelPosition) (valid : IsVal
         let laid = laid_out desc valid in
         let here = component_field desc j laid is listed in
         let c = component_of desc j in
-        let number = ordered_element (element_type desc) (element_counts desc) (is_swapped desc) frame place 0 in
+        let number = ordered_element (element_type desc) (element_counts desc) (is_swapped desc) frame position 0 in
         ap (λ w. number / 2 ^ bits_below (field_widths desc) (position_of desc j) % 2 ^ w) here.0
         ∙ ap (λ b. number / 2 ^ b % 2 ^ c.depth) here.1
         ∙ ap (λ n. n / 2 ^ word_shift desc c % 2 ^ c.depth) (word_number j listed)
-        ∙ word_field desc place.width place.rows frame j place.x place.row laid all_bytes listed
+        ∙ word_field desc position.width position.rows frame j position.x position.row laid all_bytes listed
 
   -- ---- the whole
 
   module _ (none : desc.palette ≡ false) where
     abbrev codes : ℕ → ℕ
-    codes c = code_of desc place.width place.rows frame place.x place.row c
+    codes c = code_of desc position.width position.rows frame position.x position.row c
 
-    -- what stands at the components' places goes to their channels
+    -- what stands at the components' positions goes to their channels
     decoded : (values : ℕ → ℕ) → ((j : ℕ) → j < desc.count → values (position_of desc j) ≡ component_here j)
-        → cleared (missing_codes desc) (swizzled (from_places desc) (Numbers (four values))) ≡ Numbers (four codes)
+        → cleared (missing_codes desc) (swizzled (channel_slots desc) (Numbers (four values))) ≡ Numbers (four codes)
     unfolding component_here
     decoded values are =
-        let places = has_places desc valid in
+        let positions = has_slots desc valid in
         in_channels desc values codes
         (λ c below there.
         let j = component_at desc c in
         let listed : j < desc.count = channel_listed desc c valid none below there in (
-          omega (arith, places.within j listed, places.few),
-          are j listed ∙ sym (plain_component desc place.width place.rows frame j place.x place.row none) ∙ sym (code_of-there desc place.width place.rows frame place.x place.row c there),
+          omega (arith, positions.within j listed, positions.few),
+          are j listed ∙ sym (plain_component desc position.width position.rows frame j position.x position.row none)
+              ∙ sym (code_of-there desc position.width position.rows frame position.x position.row c there),
         ))
-        (λ c missing. sym (code_of-missing desc place.width place.rows frame place.x place.row c missing))
+        (λ c missing. sym (code_of-missing desc position.width position.rows frame position.x position.row c missing))
 
 pub decode_is : (desc : Desc) (splits : List Op) → desc.palette ≡ false → split desc ≡ splits
-    → decode desc ≡ decode_by (element_type desc) (element_counts desc) (is_swapped desc) splits (from_places desc) (missing_codes desc)
+    → decode desc ≡ decode_by (element_type desc) (element_counts desc) (is_swapped desc) splits (channel_slots desc) (missing_codes desc)
 unfolding decode
 decode_is desc splits none are =
-    let by = decode_by (element_type desc) (element_counts desc) (is_swapped desc) (split desc) (from_places desc) (missing_codes desc) in
+    let by = decode_by (element_type desc) (element_counts desc) (is_swapped desc) (split desc) (channel_slots desc) (missing_codes desc) in
     cond-false desc.palette (Read U8 (1 ∷ 0 ∷ 0 ∷ 0 ∷ []) true ∷ Clear (missing_codes desc) ∷ []) by none
-    ∙ ap (λ s. decode_by (element_type desc) (element_counts desc) (is_swapped desc) s (from_places desc) (missing_codes desc)) are
+    ∙ ap (λ s. decode_by (element_type desc) (element_counts desc) (is_swapped desc) s (channel_slots desc) (missing_codes desc)) are
 
 abbrev pub shifts : Desc → List Op
 shifts desc =
-    LeftShift (bits (element_type desc) - (component_of desc 0).shift - (component_of desc 0).depth) ∷ RightShift (bits (element_type desc) - (component_of desc 0).depth) ∷ []
+    LeftShift (bits (element_type desc) - (component_of desc 0).shift - (component_of desc 0).depth) ∷ RightShift
+    (bits (element_type desc) - (component_of desc 0).depth) ∷ []
 
 pub split_elements : (desc : Desc) → is_elements desc ≡ true → split desc ≡ shifts desc
 split_elements desc elements = cond-true (is_elements desc) (shifts desc) (Unpack (field_widths desc) ∷ []) elements
@@ -163,20 +180,26 @@ split_elements desc elements = cond-true (is_elements desc) (shifts desc) (Unpac
 pub split_word : (desc : Desc) → is_elements desc ≡ false → split desc ≡ Unpack (field_widths desc) ∷ []
 split_word desc word = cond-false (is_elements desc) (shifts desc) (Unpack (field_widths desc) ∷ []) word
 
-pub decode_plain : (desc : Desc) (frame : List ℕ) (place : PixelPosition) → IsValid desc → desc.palette ≡ false → All (λ byte. byte < 256) frame
-    → run_from frame place Start (decode desc) no_values ≡ Numbers (four (code_of desc place.width place.rows frame place.x place.row))
-decode_plain desc frame place valid none all_bytes =
+pub decode_plain : (desc : Desc) (frame : List ℕ) (position : PixelPosition) → IsValid desc → desc.palette ≡ false
+    → All (λ byte. byte < 256) frame
+    → run_from frame position Start (decode desc) no_values
+    ≡ Numbers (four (code_of desc position.width position.rows frame position.x position.row))
+decode_plain desc frame position valid none all_bytes =
     let elem = element_type desc in
     let first = component_of desc 0 in
     ⊎_elim
     (λ (is : HasElements desc (first_size desc)).
-    ap (λ ops. run_from frame place Start ops no_values) (decode_is desc (shifts desc) none (split_elements desc is.elements))
-    ∙ run_shifts frame place elem (element_counts desc) (is_swapped desc) (bits elem - first.shift - first.depth) (bits elem - first.depth) (from_places desc) (missing_codes desc)
-    ∙ decoded desc frame place valid all_bytes none (shifted desc frame place valid all_bytes is) (shifted_is desc frame place valid all_bytes is))
+    ap (λ ops. run_from frame position Start ops no_values) (decode_is desc (shifts desc) none (split_elements desc is.elements))
+    ∙ run_shifts frame position elem (element_counts desc) (is_swapped desc) (bits elem - first.shift - first.depth)
+    (bits elem - first.depth) (channel_slots desc) (missing_codes desc)
+    ∙ decoded desc frame position valid all_bytes none (shifted desc frame position valid all_bytes is)
+    (shifted_is desc frame position valid all_bytes is))
     (λ (is : HasWord desc).
-    ap (λ ops. run_from frame place Start ops no_values) (decode_is desc (Unpack (field_widths desc) ∷ []) none (split_word desc is.word))
-    ∙ run_fields frame place elem (element_counts desc) (is_swapped desc) (field_widths desc) (from_places desc) (missing_codes desc)
-    ∙ decoded desc frame place valid all_bytes none (fielded desc frame place valid all_bytes is) (fielded_is desc frame place valid all_bytes is))
+    ap (λ ops. run_from frame position Start ops no_values)
+    (decode_is desc (Unpack (field_widths desc) ∷ []) none (split_word desc is.word))
+    ∙ run_fields frame position elem (element_counts desc) (is_swapped desc) (field_widths desc) (channel_slots desc) (missing_codes desc)
+    ∙ decoded desc frame position valid all_bytes none (fielded desc frame position valid all_bytes is)
+    (fielded_is desc frame position valid all_bytes is))
     (has_layout desc valid)
 
 pub stage_plain : (desc : Desc) → IsValid desc → desc.palette ≡ false → stage_from Start (decode desc) ≡ Typed (element_type desc)
@@ -186,8 +209,9 @@ stage_plain desc valid none =
     ⊎_elim
     (λ (is : HasElements desc (first_size desc)).
     ap (stage_from Start) (decode_is desc (shifts desc) none (split_elements desc is.elements))
-    ∙ stage_shifts elem (element_counts desc) (is_swapped desc) (bits elem - first.shift - first.depth) (bits elem - first.depth) (from_places desc) (missing_codes desc))
+    ∙ stage_shifts elem (element_counts desc) (is_swapped desc) (bits elem - first.shift - first.depth) (bits elem - first.depth)
+    (channel_slots desc) (missing_codes desc))
     (λ (is : HasWord desc).
     ap (stage_from Start) (decode_is desc (Unpack (field_widths desc) ∷ []) none (split_word desc is.word))
-    ∙ stage_fields elem (element_counts desc) (is_swapped desc) (field_widths desc) (from_places desc) (missing_codes desc))
+    ∙ stage_fields elem (element_counts desc) (is_swapped desc) (field_widths desc) (channel_slots desc) (missing_codes desc))
     (has_layout desc valid)

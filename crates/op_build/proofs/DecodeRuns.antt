@@ -20,40 +20,45 @@ use Rattle.op_build.proofs.ByteNumbers.{in_order}
 
 -- elements, and the values behind them
 abbrev pub decode_by : PixType → List ℕ → Bool → List Op → List ℕ → List (Option ℚ) → List Op
-decode_by elem counts swapped splits places entries = Read elem counts false ∷ only_if swapped SwapBytes ++ splits ++ Swizzle places ∷ Clear entries ∷ []
+decode_by elem counts swapped splits positions entries =
+    Read elem counts false ∷ only_if swapped SwapBytes ++ splits ++ Swizzle positions ∷ Clear entries ∷ []
 
 -- element i of a pixel, in the format's byte order
 abbrev pub ordered_element : PixType → List ℕ → Bool → List ℕ → PixelPosition → ℕ → ℕ
-ordered_element elem counts swapped frame place i = in_order swapped (bytes elem) (element_of elem counts frame place i)
+ordered_element elem counts swapped frame position i = in_order swapped (bytes elem) (element_of elem counts frame position i)
 
-pub run_shifts : (frame : List ℕ) (place : PixelPosition) (elem : PixType) (counts : List ℕ) (swapped : Bool) (up down : ℕ) (places : List ℕ) (entries : List (Option ℚ))
-    → run_from frame place Start (decode_by elem counts swapped (LeftShift up ∷ RightShift down ∷ []) places entries) no_values
-    ≡ cleared entries (swizzled places (Numbers (four (λ i. ordered_element elem counts swapped frame place i * 2 ^ up % 2 ^ bits elem / 2 ^ down))))
+pub run_shifts : (frame : List ℕ) (position : PixelPosition) (elem : PixType) (counts : List ℕ) (swapped : Bool) (up down : ℕ)
+    (positions : List ℕ) (entries : List (Option ℚ))
+    → run_from frame position Start (decode_by elem counts swapped (LeftShift up ∷ RightShift down ∷ []) positions entries) no_values
+    ≡ cleared entries
+    (swizzled positions (Numbers (four (λ i. ordered_element elem counts swapped frame position i * 2 ^ up % 2 ^ bits elem / 2 ^ down))))
 unfolding run_from apply stage_after
-run_shifts frame place elem counts true up down places entries = refl
-run_shifts frame place elem counts false up down places entries = refl
+run_shifts frame position elem counts true up down positions entries = refl
+run_shifts frame position elem counts false up down positions entries = refl
 
-pub run_fields : (frame : List ℕ) (place : PixelPosition) (elem : PixType) (counts : List ℕ) (swapped : Bool) (widths : List ℕ) (places : List ℕ) (entries : List (Option ℚ))
-    → run_from frame place Start (decode_by elem counts swapped (Unpack widths ∷ []) places entries) no_values
-    ≡ cleared entries (swizzled places (Numbers (four (λ i. field widths (ordered_element elem counts swapped frame place 0) i))))
+pub run_fields : (frame : List ℕ) (position : PixelPosition) (elem : PixType) (counts : List ℕ) (swapped : Bool) (widths : List ℕ)
+    (positions : List ℕ) (entries : List (Option ℚ))
+    → run_from frame position Start (decode_by elem counts swapped (Unpack widths ∷ []) positions entries) no_values
+    ≡ cleared entries (swizzled positions (Numbers (four (λ i. field widths (ordered_element elem counts swapped frame position 0) i))))
 unfolding run_from apply stage_after
-run_fields frame place elem counts true widths places entries = refl
-run_fields frame place elem counts false widths places entries = refl
+run_fields frame position elem counts true widths positions entries = refl
+run_fields frame position elem counts false widths positions entries = refl
 
-pub run_palette : (frame : List ℕ) (place : PixelPosition) (entries : List (Option ℚ))
-    → run_from frame place Start (Read U8 (1 ∷ 0 ∷ 0 ∷ 0 ∷ []) true ∷ Clear entries ∷ []) no_values ≡ cleared entries (Numbers (palette_colours frame place))
+pub run_palette : (frame : List ℕ) (position : PixelPosition) (entries : List (Option ℚ))
+    → run_from frame position Start (Read U8 (1 ∷ 0 ∷ 0 ∷ 0 ∷ []) true ∷ Clear entries ∷ []) no_values
+    ≡ cleared entries (Numbers (palette_colours frame position))
 unfolding run_from apply stage_after
-run_palette frame place entries = refl
+run_palette frame position entries = refl
 
 -- the values have the type of the elements
-pub stage_shifts : (elem : PixType) (counts : List ℕ) (swapped : Bool) (up down : ℕ) (places : List ℕ) (entries : List (Option ℚ))
-    → stage_from Start (decode_by elem counts swapped (LeftShift up ∷ RightShift down ∷ []) places entries) ≡ Typed elem
+pub stage_shifts : (elem : PixType) (counts : List ℕ) (swapped : Bool) (up down : ℕ) (positions : List ℕ) (entries : List (Option ℚ))
+    → stage_from Start (decode_by elem counts swapped (LeftShift up ∷ RightShift down ∷ []) positions entries) ≡ Typed elem
 unfolding stage_from stage_after
-stage_shifts elem counts true up down places entries = refl
-stage_shifts elem counts false up down places entries = refl
+stage_shifts elem counts true up down positions entries = refl
+stage_shifts elem counts false up down positions entries = refl
 
-pub stage_fields : (elem : PixType) (counts : List ℕ) (swapped : Bool) (widths : List ℕ) (places : List ℕ) (entries : List (Option ℚ))
-    → stage_from Start (decode_by elem counts swapped (Unpack widths ∷ []) places entries) ≡ Typed elem
+pub stage_fields : (elem : PixType) (counts : List ℕ) (swapped : Bool) (widths : List ℕ) (positions : List ℕ) (entries : List (Option ℚ))
+    → stage_from Start (decode_by elem counts swapped (Unpack widths ∷ []) positions entries) ≡ Typed elem
 unfolding stage_from stage_after
-stage_fields elem counts true widths places entries = refl
-stage_fields elem counts false widths places entries = refl
+stage_fields elem counts true widths positions entries = refl
+stage_fields elem counts false widths positions entries = refl

@@ -1,5 +1,6 @@
 -- Where in a frame the elements of a pixel begin, also the spare ones.
-use Rattle.std.proofs.Common.{◌≡◌, ℕ, zero, suc, ◌+◌, ◌-◌, ◌*◌, ◌/◌, ◌%◌, ◌<◌, ◌≤◌, ⊎_elim, List, [], ◌∷◌, take, length, get_or, eq-zero-or-pos, sym, ap, ◌∙◌, arith}
+use Rattle.std.proofs.Common.{◌≡◌, ℕ, zero, suc, ◌+◌, ◌-◌, ◌*◌, ◌/◌, ◌%◌, ◌<◌, ◌≤◌, ⊎_elim, List, [], ◌∷◌, take, length, get_or}
+use Rattle.std.proofs.Common.{eq-zero-or-pos, sym, ap, ◌∙◌, arith}
 use Rattle.std.specs.Prelude.{sum}
 use Rattle.std.proofs.lemmas.Bool.{cases_lt}
 use Rattle.std.proofs.lemmas.List.Sums.{sum_by-cons, sum_by_more}
@@ -14,15 +15,17 @@ use Rattle.op_list.specs.Types.{bytes}
 use Rattle.op_list.specs.Pixel.{number_at, element_in, element_of, pixel_count, pixel_number}
 use Rattle.op_list.proofs.Elements.{elements_in_order}
 use Rattle.op_list.proofs.Stored.{element_of-is}
-use Rattle.op_build.specs.Shape.{element_counts, element_index}
-use Rattle.op_build.proofs.Counts.{count_at, length-counts}
-use Rattle.op_build.proofs.ElementPlaces.{HasElements, element_index_is, first_in_plane}
-use Rattle.op_build.proofs.Planes.{component_in}
+use Rattle.pix_desc.specs.Shape.{element_counts, element_index}
+use Rattle.pix_desc.proofs.ElementCounts.{count_at, length-counts}
+use Rattle.pix_desc.proofs.ElementSlots.{HasElements, element_index_is, first_in_plane}
+use Rattle.pix_desc.proofs.PlaneSteps.{component_in}
 
 -- an element of a pixel is the number of the bytes where it begins
-pub element_of_at : (elem : PixType) (planes frame : List ℕ) (place : PixelPosition) (i at : ℕ) → i < sum planes → element_in (pixel_count place) (pixel_number place) 0 planes i * bytes elem ≡ at
-    → element_of elem planes frame place i ≡ number_at (bytes elem) frame at
-element_of_at elem planes frame place i at within begins = element_of-is elem planes frame place i within ∙ ap (number_at (bytes elem) frame) begins
+pub element_of_at : (elem : PixType) (planes frame : List ℕ) (position : PixelPosition) (i at : ℕ) → i < sum planes
+    → element_in (pixel_count position) (pixel_number position) 0 planes i * bytes elem ≡ at
+    → element_of elem planes frame position i ≡ number_at (bytes elem) frame at
+element_of_at elem planes frame position i at within begins =
+    element_of-is elem planes frame position i within ∙ ap (number_at (bytes elem) frame) begins
 
 -- Element i of a pixel is element r of those in plane p.
 pub record IsInPlane (ns : List ℕ) (i p r : ℕ) : Type 0 where
@@ -50,7 +53,8 @@ find_in_plane (n ∷ ns) i within =
 
 -- the bytes before an element, of those of the elements before it
 in_bytes : (width rows row x size before count rest step : ℕ) → count * size ≡ step
-    → (width * rows * before + (row * width + x) * count + rest) * size ≡ width * rows * (before * size) + row * (width * step) + x * step + rest * size
+    → (width * rows * before + (row * width + x) * count + rest) * size
+    ≡ width * rows * (before * size) + row * (width * step) + x * step + rest * size
 in_bytes width rows row x size before count rest step steps = omega (arith, ap (λ t. row * (width * t)) steps, ap (λ t. x * t) steps)
 
 module _ (desc : Desc) (size : ℕ) (laid : IsLaidOut desc) (is : HasElements desc size) where
@@ -65,7 +69,8 @@ module _ (desc : Desc) (size : ℕ) (laid : IsLaidOut desc) (is : HasElements de
       omega (arith, div-add-mod' (plane_step desc plane) size, ap (λ s. s % size) step, is.step at.0 at.1))
       (eq-zero-or-pos (plane_step desc plane))
 
-  pub plane_start_is : (width rows plane : ℕ) → plane ≤ 4 → plane_start desc width rows plane ≡ width * rows * (sum (take plane (element_counts desc)) * size)
+  pub plane_start_is : (width rows plane : ℕ) → plane ≤ 4
+      → plane_start desc width rows plane ≡ width * rows * (sum (take plane (element_counts desc)) * size)
   plane_start_is width rows zero within = omega arith
   plane_start_is width rows (suc plane) within =
       let before = sum (take plane (element_counts desc)) in
@@ -74,26 +79,36 @@ module _ (desc : Desc) (size : ℕ) (laid : IsLaidOut desc) (is : HasElements de
       let listed : plane < length (element_counts desc) = omega (arith, length-counts desc) in
       let here = count_at desc size plane is.bytes (omega arith) in
       let more : sum (take (suc plane) (element_counts desc)) ≡ before + count =
-      ap (λ t. sum (take t (element_counts desc))) next ∙ sum_by_more (λ n. n) (element_counts desc) plane 0 listed ∙ ap (λ t. before + t) here in
-      omega (arith, plane_start_is width rows plane (omega arith), ap (λ t. width * rows * (t * size)) more, ap (λ t. rows * (width * t)) (whole_steps plane))
+      ap (λ t. sum (take t (element_counts desc))) next ∙ sum_by_more (λ n. n) (element_counts desc) plane 0 listed
+      ∙ ap (λ t. before + t) here in
+      omega (
+        arith,
+        plane_start_is width rows plane (omega arith),
+        ap (λ t. width * rows * (t * size)) more,
+        ap (λ t. rows * (width * t))
+            (whole_steps plane),
+      )
 
-  pub element_starts : (place : PixelPosition) (i p r : ℕ) → IsInPlane (element_counts desc) i p r → element_in (pixel_count place) (pixel_number place) 0 (element_counts desc) i * size
-      ≡ row_start desc place.width place.rows p place.row + place.x * plane_step desc p + r * size
+  pub element_starts : (position : PixelPosition) (i p r : ℕ) → IsInPlane (element_counts desc) i p r
+      → element_in (pixel_count position) (pixel_number position) 0 (element_counts desc) i * size
+      ≡ row_start desc position.width position.rows p position.row + position.x * plane_step desc p + r * size
   unfolding row_start
-  element_starts place i p r there =
+  element_starts position i p r there =
       let step = plane_step desc p in
       let counts = element_counts desc in
       let before = sum (take p counts) in
       let below : p < 4 = omega (arith, there.plane, length-counts desc) in
       let steps : get_or counts p 0 * size ≡ step = ap (λ t. t * size) (count_at desc size p is.bytes below) ∙ whole_steps p in
-      ap (λ k. element_in (pixel_count place) (pixel_number place) 0 counts k * size) there.index
-      ∙ ap (λ t. t * size) (elements_in_order (pixel_count place) (pixel_number place) counts p r there.inside)
-      ∙ in_bytes place.width place.rows place.row place.x size before (get_or counts p 0) r step steps
-      ∙ ap (λ t. t + place.row * (place.width * step) + place.x * step + r * size) (sym (plane_start_is place.width place.rows p (omega arith)))
+      ap (λ k. element_in (pixel_count position) (pixel_number position) 0 counts k * size) there.index
+      ∙ ap (λ t. t * size) (elements_in_order (pixel_count position) (pixel_number position) counts p r there.inside)
+      ∙ in_bytes position.width position.rows position.row position.x size before (get_or counts p 0) r step steps
+      ∙ ap (λ t. t + position.row * (position.width * step) + position.x * step + r * size)
+      (sym (plane_start_is position.width position.rows p (omega arith)))
 
   -- the plane of the element that holds a component
   pub component_in_plane : (j : ℕ) → j < desc.count
-      → IsInPlane (element_counts desc) (element_index desc j) (component_of desc j).plane (count_of (first_byte desc (component_of desc j)) / size)
+      → IsInPlane (element_counts desc) (element_index desc j) (component_of desc j).plane
+      (count_of (first_byte desc (component_of desc j)) / size)
   component_in_plane j listed = record {
     plane = omega (arith, length-counts desc, laid.plane j listed);
     inside = first_in_plane desc size laid is j listed;
@@ -101,20 +116,23 @@ module _ (desc : Desc) (size : ℕ) (laid : IsLaidOut desc) (is : HasElements de
   }
 
   -- it begins where the component's first byte stands
-  pub element_begins : (place : PixelPosition) (j : ℕ) → j < desc.count → element_in (pixel_count place) (pixel_number place) 0 (element_counts desc) (element_index desc j) * size
-      ≡ row_start desc place.width place.rows (component_of desc j).plane place.row + place.x * (component_of desc j).step + count_of (first_byte desc (component_of desc j))
-  element_begins place j listed =
+  pub element_begins : (position : PixelPosition) (j : ℕ) → j < desc.count
+      → element_in (pixel_count position) (pixel_number position) 0 (element_counts desc) (element_index desc j) * size
+      ≡ row_start desc position.width position.rows (component_of desc j).plane position.row + position.x *
+      (component_of desc j).step + count_of (first_byte desc (component_of desc j))
+  element_begins position j listed =
       let c = component_of desc j in
       let first = count_of (first_byte desc c) in
-      let start = row_start desc place.width place.rows c.plane place.row in
+      let start = row_start desc position.width position.rows c.plane position.row in
       let firsts : first / size * size ≡ first = omega (arith, div-add-mod' first size, is.first j listed) in
-      element_starts place (element_index desc j) c.plane (first / size) (component_in_plane j listed)
-      ∙ ap (λ s. start + place.x * s + first / size * size) (laid.step j listed)
-      ∙ ap (λ t. start + place.x * c.step + t) firsts
+      element_starts position (element_index desc j) c.plane (first / size) (component_in_plane j listed)
+      ∙ ap (λ s. start + position.x * s + first / size * size) (laid.step j listed)
+      ∙ ap (λ t. start + position.x * c.step + t) firsts
 
 -- and the word of a pixel behind those of the pixels before it
 pub word_begins : (desc : Desc) (width rows j x row : ℕ) → IsLaidOut desc → j < desc.count → (component_of desc j).plane ≡ 0
-    → (width * rows * 0 + (row * width + x) * 1 + 0) * (component_of desc j).step ≡ row_start desc width rows (component_of desc j).plane row + x * (component_of desc j).step
+    → (width * rows * 0 + (row * width + x) * 1 + 0) * (component_of desc j).step
+    ≡ row_start desc width rows (component_of desc j).plane row + x * (component_of desc j).step
 unfolding row_start
 word_begins desc width rows j x row laid listed first =
     omega (arith, ap (plane_start desc width rows) first, ap (λ s. row * (width * s)) (laid.step j listed))

@@ -15,16 +15,25 @@ use Rattle.op_build.specs.Meaning.{elements_at}
 use Rattle.op_build.specs.Recipe.{encode}
 use Rattle.op_build.proofs.EncodeElements.{GivesValues, encode_elements}
 use Rattle.op_build.proofs.EncodeWord.{encode_word}
-use Rattle.op_build.proofs.Shapes.{has_layout}
+use Rattle.pix_desc.proofs.PixelSlots.{has_layout}
 
-pub encode_gives : (desc : Desc) (frame : List ℕ) (place : PixelPosition) (value : ℕ → ℕ → ℕ → ℕ) (vs : ℕ → ℚ) → IsValid desc → desc.palette ≡ false
-    → FitDepths desc place.width place.rows value → ((j : ℕ) → j < desc.count → floor (vs (channel_of desc j)) ≡ pos (value j place.x place.row))
-    → place.x < place.width → place.row < place.rows
-    → run_from frame place (Typed Rat) (encode desc) (Fractions (four vs))
-    ≡ Numbers (elements_at desc (frame_of desc place.width place.rows value) place.width place.rows place.x place.row)
-encode_gives desc frame place value vs valid plain fit codes column row =
-    let gives : GivesValues desc place value vs = record { valid = valid; plain = plain; fit = fit; codes = codes; column = column; row = row } in
+pub encode_gives : (desc : Desc) (frame : List ℕ) (position : PixelPosition) (value : ℕ → ℕ → ℕ → ℕ) (vs : ℕ → ℚ) → IsValid desc
+    → desc.palette ≡ false
+    → FitDepths desc position.width position.rows value
+    → ((j : ℕ) → j < desc.count → floor (vs (channel_of desc j)) ≡ pos (value j position.x position.row))
+    → position.x < position.width → position.row < position.rows
+    → run_from frame position (Typed Rat) (encode desc) (Fractions (four vs))
+    ≡ Numbers (elements_at desc (frame_of desc position.width position.rows value) position.width position.rows position.x position.row)
+encode_gives desc frame position value vs valid plain fit codes column row =
+    let gives : GivesValues desc position value vs = record {
+      valid = valid;
+      plain = plain;
+      fit = fit;
+      codes = codes;
+      column = column;
+      row = row;
+    } in
     ⊎_elim
-    (λ is. encode_elements desc place value vs gives is frame)
-    (λ is. encode_word desc place value vs gives is frame)
+    (λ is. encode_elements desc position value vs gives is frame)
+    (λ is. encode_word desc position value vs gives is frame)
     (has_layout desc valid)

@@ -1,5 +1,6 @@
 -- Encoding gives the elements of a pixel, where each holds one component or none.
-use Rattle.std.proofs.Common.{◌≡◌, ℕ, ◌+◌, ◌*◌, ◌/◌, ◌%◌, ◌^◌, ◌<◌, ◌≤◌, ◌⊎◌, inl, inr, ⊎_elim, true, false, not, ◌&&◌, if◌then◌else◌, nat_eq, pos, List, get_or, Option, Some, None, pow_pos, mod-eq_of_lt, sym, refl, ap, subst, ◌∙◌, arith}
+use Rattle.std.proofs.Common.{◌≡◌, ℕ, ◌+◌, ◌*◌, ◌/◌, ◌%◌, ◌^◌, ◌<◌, ◌≤◌, ◌⊎◌, inl, inr, ⊎_elim, true, false, not, ◌&&◌, if◌then◌else◌}
+use Rattle.std.proofs.Common.{nat_eq, pos, List, get_or, Option, Some, None, pow_pos, mod-eq_of_lt, sym, refl, ap, subst, ◌∙◌, arith}
 use Rattle.std.specs.Prelude.{sum, nat_lt}
 use Rattle.std.specs.Int.{bit_at}
 use Rattle.std.proofs.lemmas.Bool.{cases_lt, cases_eq, cond-true, cond-false, lt-ltb, le-ltb}
@@ -26,18 +27,20 @@ use Rattle.op_list.specs.Pixel.{number_at, element_in, element_of, pixel_count, 
 use Rattle.op_list.specs.Run.{run_from}
 use Rattle.op_list.proofs.Stored.{element_of-past}
 use Rattle.op_build.specs.Meaning.{elements_at}
-use Rattle.op_build.specs.Recipe.{encode, to_places, spare_zeros}
-use Rattle.op_build.specs.Shape.{element_bytes, element_type, element_counts, element_index, field_widths, is_swapped, slots}
+use Rattle.op_build.specs.Recipe.{encode, slot_channels, spare_zeros}
+use Rattle.pix_desc.specs.Shape.{element_bytes, element_counts, element_index, field_widths, slots}
+use Rattle.op_build.specs.ElementType.{element_type, is_swapped}
 use Rattle.op_build.proofs.ByteNumbers.{in_order}
-use Rattle.op_build.proofs.ElementPlaces.{HasElements, element_index-apart, length-slots, slot_holds, index_slot}
+use Rattle.pix_desc.proofs.ElementSlots.{HasElements, element_index-apart, length-slots, slot_holds, index_slot}
 use Rattle.op_build.proofs.ElementStarts.{element_of_at, IsInPlane, find_in_plane, element_starts, component_in_plane}
 use Rattle.op_build.proofs.EncodeBits.{element_bit, component_bit}
 use Rattle.op_build.proofs.EncodeOrder.{IsSize, turned_back, ordered_below}
-use Rattle.op_build.proofs.EncodePlaces.{fits_type, spare_place, component_place}
+use Rattle.op_build.proofs.SlotNumbers.{fits_type, spare_slot, component_position}
 use Rattle.op_build.proofs.EncodeRuns.{encode_by, placed_code, run_shift}
 use Rattle.op_list.proofs.Four.{same_four}
-use Rattle.op_build.proofs.Shapes.{first_size, HasType, element_type_is}
-use Rattle.op_build.proofs.WordBits.{number_end}
+use Rattle.pix_desc.proofs.PixelSlots.{first_size}
+use Rattle.op_build.proofs.ElementTypes.{HasType, element_type_is}
+use Rattle.pix_desc.proofs.WordBits.{number_end}
 
 -- a slot holds a component or none
 pub slot_cases : (slot : Option ℕ) → (slot ≡ None) ⊎ ((j : ℕ) × (slot ≡ Some j))
@@ -46,13 +49,16 @@ slot_cases (Some j) = inr (j, refl)
 
 pub shifted_below : (v shift depth size : ℕ) → v < 2 ^ depth → shift + depth ≤ size → v * 2 ^ shift < 2 ^ size
 shifted_below v shift depth size small room =
-    fits_type (v * 2 ^ shift) (shift + depth) size room (omega (arith, mul-add-lt v (2 ^ shift) 0 (2 ^ depth) small (pow_pos shift), pow-add 2 shift depth))
+    fits_type (v * 2 ^ shift) (shift + depth) size room
+    (omega (arith, mul-add-lt v (2 ^ shift) 0 (2 ^ depth) small (pow_pos shift), pow-add 2 shift depth))
 
 -- an element whose number in the format's byte order is known
-pub element_from : (desc : Desc) (frame counts : List ℕ) (place : PixelPosition) (i at size number : ℕ) → HasType desc → ((k : ℕ) → get_or frame k 0 < 256) → element_bytes desc ≡ size
-    → i < sum counts → element_in (pixel_count place) (pixel_number place) 0 counts i * size ≡ at → in_order desc.be size (number_at size frame at) ≡ number
-    → in_order (is_swapped desc) (bytes (element_type desc)) number ≡ element_of (element_type desc) counts frame place i
-element_from desc frame counts place i at size number typed small size_is within begins is =
+pub element_from : (desc : Desc) (frame counts : List ℕ) (position : PixelPosition) (i at size number : ℕ) → HasType desc
+    → ((k : ℕ) → get_or frame k 0 < 256) → element_bytes desc ≡ size
+    → i < sum counts → element_in (pixel_count position) (pixel_number position) 0 counts i * size ≡ at
+    → in_order desc.be size (number_at size frame at) ≡ number
+    → in_order (is_swapped desc) (bytes (element_type desc)) number ≡ element_of (element_type desc) counts frame position i
+element_from desc frame counts position i at size number typed small size_is within begins is =
     let elem = element_type desc in
     let bytes_are : bytes elem ≡ size = typed.bytes ∙ size_is in
     let swapped : is_swapped desc ≡ (desc.be && not (nat_eq size 1)) = typed.swapped ∙ ap (λ s. desc.be && not (nat_eq s 1)) size_is in
@@ -61,9 +67,11 @@ element_from desc frame counts place i at size number typed small size_is within
     ∙ ap (in_order (desc.be && not (nat_eq size 1)) size) (sym is)
     ∙ turned_back frame small desc.be size at (subst IsSize size_is typed.size)
     ∙ ap (λ s. number_at s frame at) (sym bytes_are)
-    ∙ sym (element_of_at elem counts frame place i at within (ap (λ s. element_in (pixel_count place) (pixel_number place) 0 counts i * s) bytes_are ∙ begins))
+    ∙ sym (element_of_at elem counts frame position i at within
+    (ap (λ s. element_in (pixel_count position) (pixel_number position) 0 counts i * s) bytes_are ∙ begins))
 
-module _ (desc : Desc) (width rows x row : ℕ) (value : ℕ → ℕ → ℕ → ℕ) (frame : List ℕ) (laid : IsLaidOut desc) (says : IsFrameOf desc width rows value frame)
+module _ (desc : Desc) (width rows x row : ℕ) (value : ℕ → ℕ → ℕ → ℕ) (frame : List ℕ) (laid : IsLaidOut desc)
+    (says : IsFrameOf desc width rows value frame)
     (column : x < width) (line : row < rows) (size : ℕ) (is : HasElements desc size) (sizes : IsSize size) where
   small_bytes : (k : ℕ) → get_or frame k 0 < 256
   small_bytes k = byte_below frame k says.bytes
@@ -81,18 +89,22 @@ module _ (desc : Desc) (width rows x row : ℕ) (value : ℕ → ℕ → ℕ →
       ⊎_elim
       (λ none. none ∙ sym (bit_at-zero m))
       (λ one.
-      let same : None ≡ Some one.0 = sym spare ∙ ap (λ k. get_or (slots desc) k None) (sym one.3) ∙ index_slot desc size laid is one.0 one.2 in
+      let same : None ≡ Some one.0 = sym spare ∙ ap (λ k. get_or (slots desc) k None) (sym one.3)
+      ∙ index_slot desc size laid is one.0 one.2 in
       absurd cc)
       (element_bit desc width rows x row value frame laid says column line size is i p r there m inside))
 
   -- and one that holds a component is its value, shifted to its bits
-  component_number : (i p r j : ℕ) → IsInPlane (element_counts desc) i p r → j < desc.count → element_index desc j ≡ i → (component_of desc j).plane ≡ p
-      → count_of (first_byte desc (component_of desc j)) / size ≡ r → value j x row < 2 ^ (component_of desc j).depth → (component_of desc j).shift + (component_of desc j).depth ≤ 8 * size
+  component_number : (i p r j : ℕ) → IsInPlane (element_counts desc) i p r → j < desc.count → element_index desc j ≡ i
+      → (component_of desc j).plane ≡ p
+      → count_of (first_byte desc (component_of desc j)) / size ≡ r → value j x row < 2 ^ (component_of desc j).depth
+      → (component_of desc j).shift + (component_of desc j).depth ≤ 8 * size
       → number_of p r ≡ value j x row * 2 ^ (component_of desc j).shift
   component_number i p r j there listed index plane first small room =
       let c = component_of desc j in
       let v = value j x row in
-      same_from_bits_below (8 * size) (number_of p r) (v * 2 ^ c.shift) (number_below p r) (shifted_below v c.shift c.depth (8 * size) small room) (λ m inside.
+      same_from_bits_below (8 * size) (number_of p r) (v * 2 ^ c.shift) (number_below p r)
+      (shifted_below v c.shift c.depth (8 * size) small room) (λ m inside.
       ⊎_elim
       (λ (none : bit_at (v * 2 ^ c.shift) m ≡ 0).
       ⊎_elim
@@ -112,34 +124,38 @@ module _ (desc : Desc) (width rows x row : ℕ) (value : ℕ → ℕ → ℕ →
       (bit_at_shifted_cases v c.shift c.depth m small))
 
 encode_is : (desc : Desc) → is_elements desc ≡ true
-    → encode desc ≡ encode_by (element_type desc) (element_counts desc) (is_swapped desc) (LeftShift (component_of desc 0).shift) (to_places desc) (spare_zeros desc)
+    → encode desc
+    ≡ encode_by (element_type desc) (element_counts desc) (is_swapped desc) (LeftShift (component_of desc 0).shift) (slot_channels desc)
+    (spare_zeros desc)
 unfolding encode
 encode_is desc elements =
-    ap (λ op. encode_by (element_type desc) (element_counts desc) (is_swapped desc) op (to_places desc) (spare_zeros desc))
+    ap (λ op. encode_by (element_type desc) (element_counts desc) (is_swapped desc) op (slot_channels desc) (spare_zeros desc))
     (cond-true (is_elements desc) (LeftShift (component_of desc 0).shift) (Pack (field_widths desc)) elements)
 
 -- the values of a pixel, as channels and as components
-pub record GivesValues (desc : Desc) (place : PixelPosition) (value : ℕ → ℕ → ℕ → ℕ) (vs : ℕ → ℚ) : Type 0 where
+pub record GivesValues (desc : Desc) (position : PixelPosition) (value : ℕ → ℕ → ℕ → ℕ) (vs : ℕ → ℚ) : Type 0 where
   pub valid : IsValid desc
   pub plain : desc.palette ≡ false
-  pub fit : FitDepths desc place.width place.rows value
-  pub codes : (j : ℕ) → j < desc.count → floor (vs (channel_of desc j)) ≡ pos (value j place.x place.row)
-  pub column : place.x < place.width
-  pub row : place.row < place.rows
+  pub fit : FitDepths desc position.width position.rows value
+  pub codes : (j : ℕ) → j < desc.count → floor (vs (channel_of desc j)) ≡ pos (value j position.x position.row)
+  pub column : position.x < position.width
+  pub row : position.row < position.rows
 
-module _ (desc : Desc) (place : PixelPosition) (value : ℕ → ℕ → ℕ → ℕ) (vs : ℕ → ℚ) (gives : GivesValues desc place value vs) where
+module _ (desc : Desc) (position : PixelPosition) (value : ℕ → ℕ → ℕ → ℕ) (vs : ℕ → ℚ) (gives : GivesValues desc position value vs) where
   abbrev pub made : List ℕ
-  made = frame_of desc place.width place.rows value
+  made = frame_of desc position.width position.rows value
 
-  abbrev pub place_again : PixelPosition
-  place_again = record { width = place.width; rows = place.rows; x = place.x; row = place.row; y = place.row }
+  abbrev pub position_again : PixelPosition
+  position_again = record { width = position.width; rows = position.rows; x = position.x; row = position.row; y = position.row }
 
-  pub made_says : IsFrameOf desc place.width place.rows value made
-  made_says = frame_says desc place.width place.rows value (laid_out desc gives.valid) gives.fit gives.plain
+  pub made_says : IsFrameOf desc position.width position.rows value made
+  made_says = frame_says desc position.width position.rows value (laid_out desc gives.valid) gives.fit gives.plain
 
   module _ (is : HasElements desc (first_size desc)) where
     abbrev at_place : ℕ → ℕ
-    at_place i = placed_code (element_type desc) (to_places desc) (spare_zeros desc) vs i * 2 ^ (component_of desc 0).shift % 2 ^ bits (element_type desc)
+    at_place i =
+        placed_code (element_type desc) (slot_channels desc) (spare_zeros desc) vs i * 2 ^ (component_of desc 0).shift % 2 ^ bits
+        (element_type desc)
 
     small : (k : ℕ) → get_or made k 0 < 256
     small k = byte_below made k made_says.bytes
@@ -148,7 +164,8 @@ module _ (desc : Desc) (place : PixelPosition) (value : ℕ → ℕ → ℕ → 
     first_sizes = subst IsSize is.bytes (element_type_is desc is).size
 
     written_spare : (i : ℕ) → i < 4 → i < sum (element_counts desc) → get_or (slots desc) i None ≡ None
-        → in_order (is_swapped desc) (bytes (element_type desc)) (at_place i) ≡ element_of (element_type desc) (element_counts desc) made place_again i
+        → in_order (is_swapped desc) (bytes (element_type desc)) (at_place i)
+        ≡ element_of (element_type desc) (element_counts desc) made position_again i
     written_spare i below within spare =
         let laid = laid_out desc gives.valid in
         let size = first_size desc in
@@ -158,16 +175,19 @@ module _ (desc : Desc) (place : PixelPosition) (value : ℕ → ℕ → ℕ → 
         let p = found.0 in
         let r = found.1 in
         let zero_is : at_place i ≡ 0 =
-        ap (λ n. n * 2 ^ up % 2 ^ bits elem) (spare_place desc elem vs i below (omega (arith, length-slots desc size laid is)) spare)
+        ap (λ n. n * 2 ^ up % 2 ^ bits elem) (spare_slot desc elem vs i below (omega (arith, length-slots desc size laid is)) spare)
         ∙ ap (λ n. n % 2 ^ bits elem) (let e : 0 * 2 ^ up ≡ 0 = omega arith in e)
         ∙ mod-eq_of_lt (pow_pos (bits elem)) in
         ap (in_order (is_swapped desc) (bytes elem)) zero_is
-        ∙ element_from desc made (element_counts desc) place_again i (row_start desc place.width place.rows p place.row + place.x * plane_step desc p + r * size) size 0
-        (element_type_is desc is) small is.bytes within (element_starts desc size laid is place_again i p r found.2)
-        (spare_number desc place.width place.rows place.x place.row value made laid made_says gives.column gives.row size is first_sizes i p r found.2 spare)
+        ∙ element_from desc made (element_counts desc) position_again i
+        (row_start desc position.width position.rows p position.row + position.x * plane_step desc p + r * size) size 0
+        (element_type_is desc is) small is.bytes within (element_starts desc size laid is position_again i p r found.2)
+        (spare_number desc position.width position.rows position.x position.row value made laid made_says gives.column gives.row size is
+        first_sizes i p r found.2 spare)
 
     written_component : (i j : ℕ) → i < 4 → i < sum (element_counts desc) → get_or (slots desc) i None ≡ Some j
-        → in_order (is_swapped desc) (bytes (element_type desc)) (at_place i) ≡ element_of (element_type desc) (element_counts desc) made place_again i
+        → in_order (is_swapped desc) (bytes (element_type desc)) (at_place i)
+        ≡ element_of (element_type desc) (element_counts desc) made position_again i
     written_component i j below within holds =
         let laid = laid_out desc gives.valid in
         let size = first_size desc in
@@ -176,26 +196,30 @@ module _ (desc : Desc) (place : PixelPosition) (value : ℕ → ℕ → ℕ → 
         let typed = element_type_is desc is in
         let slot = slot_holds desc size laid is i j (omega (arith, length-slots desc size laid is)) holds in
         let c = component_of desc j in
-        let v = value j place.x place.row in
+        let v = value j position.x position.row in
         let p = c.plane in
         let r = count_of (first_byte desc c) / size in
-        let fits = gives.fit j place.x place.row slot.0 gives.column gives.row in
-        let there : IsInPlane (element_counts desc) i p r = subst (λ k. IsInPlane (element_counts desc) k p r) slot.1 (component_in_plane desc size laid is j slot.0) in
+        let fits = gives.fit j position.x position.row slot.0 gives.column gives.row in
+        let there : IsInPlane (element_counts desc) i p r = subst (λ k. IsInPlane (element_counts desc) k p r) slot.1
+        (component_in_plane desc size laid is j slot.0) in
         let room : c.shift + c.depth ≤ 8 * size = omega (arith, number_end desc laid j slot.0, is.read j slot.0) in
         let type_bits : bits elem ≡ 8 * size = typed.bits ∙ ap (λ s. 8 * s) is.bytes in
         let whole : v < 2 ^ bits elem = fits_type v c.depth (bits elem) (omega arith) fits in
         let value_is : at_place i ≡ v * 2 ^ c.shift =
-        ap (λ n. n * 2 ^ up % 2 ^ bits elem) (component_place desc elem vs i j v below (omega (arith, slot.0, laid.most)) holds (gives.codes j slot.0) whole)
+        ap (λ n. n * 2 ^ up % 2 ^ bits elem)
+        (component_position desc elem vs i j v below (omega (arith, slot.0, laid.most)) holds (gives.codes j slot.0) whole)
         ∙ ap (λ s. v * 2 ^ s % 2 ^ bits elem) (sym (is.shift j slot.0))
         ∙ mod-eq_of_lt (shifted_below v c.shift c.depth (bits elem) fits (omega arith)) in
         ap (in_order (is_swapped desc) (bytes elem)) value_is
-        ∙ element_from desc made (element_counts desc) place_again i (row_start desc place.width place.rows p place.row + place.x * plane_step desc p + r * size) size (v * 2 ^ c.shift)
-        typed small is.bytes within (element_starts desc size laid is place_again i p r there)
-        (component_number desc place.width place.rows place.x place.row value made laid made_says gives.column gives.row size is first_sizes i p r j there slot.0 slot.1 refl refl fits room)
+        ∙ element_from desc made (element_counts desc) position_again i
+        (row_start desc position.width position.rows p position.row + position.x * plane_step desc p + r * size) size (v * 2 ^ c.shift)
+        typed small is.bytes within (element_starts desc size laid is position_again i p r there)
+        (component_number desc position.width position.rows position.x position.row value made laid made_says gives.column gives.row size
+        is first_sizes i p r j there slot.0 slot.1 refl refl fits room)
 
     written_is : (i : ℕ) → i < 4
         → (if nat_lt i (sum (element_counts desc)) then in_order (is_swapped desc) (bytes (element_type desc)) (at_place i) else 0)
-        ≡ element_of (element_type desc) (element_counts desc) made place_again i
+        ≡ element_of (element_type desc) (element_counts desc) made position_again i
     written_is i below =
         let made_here = in_order (is_swapped desc) (bytes (element_type desc)) (at_place i) in
         ⊎_elim
@@ -207,15 +231,16 @@ module _ (desc : Desc) (place : PixelPosition) (value : ℕ → ℕ → ℕ → 
         (slot_cases (get_or (slots desc) i None)))
         (λ (past : sum (element_counts desc) ≤ i).
         cond-false (nat_lt i (sum (element_counts desc))) made_here 0 (le-ltb i (sum (element_counts desc)) past)
-        ∙ sym (element_of-past (element_type desc) (element_counts desc) made place_again i past))
+        ∙ sym (element_of-past (element_type desc) (element_counts desc) made position_again i past))
         (cases_lt i (sum (element_counts desc)))
 
-    pub encode_elements : (frame : List ℕ) → run_from frame place (Typed Rat) (encode desc) (Fractions (four vs))
-        ≡ Numbers (elements_at desc made place.width place.rows place.x place.row)
+    pub encode_elements : (frame : List ℕ) → run_from frame position (Typed Rat) (encode desc) (Fractions (four vs))
+        ≡ Numbers (elements_at desc made position.width position.rows position.x position.row)
     encode_elements frame =
-        ap (λ ops. run_from frame place (Typed Rat) ops (Fractions (four vs))) (encode_is desc is.elements)
-        ∙ run_shift frame place (element_type desc) (element_counts desc) (is_swapped desc) (component_of desc 0).shift (to_places desc) (spare_zeros desc) vs (element_type_is desc is).whole
+        ap (λ ops. run_from frame position (Typed Rat) ops (Fractions (four vs))) (encode_is desc is.elements)
+        ∙ run_shift frame position (element_type desc) (element_counts desc) (is_swapped desc) (component_of desc 0).shift
+        (slot_channels desc) (spare_zeros desc) vs (element_type_is desc is).whole
         ∙ ap Numbers (same_four
         (λ i. if nat_lt i (sum (element_counts desc)) then in_order (is_swapped desc) (bytes (element_type desc)) (at_place i) else 0)
-        (λ i. element_of (element_type desc) (element_counts desc) made place_again i)
+        (λ i. element_of (element_type desc) (element_counts desc) made position_again i)
         written_is)

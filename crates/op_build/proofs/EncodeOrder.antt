@@ -1,5 +1,6 @@
 -- The number of some bytes, turned round for the format's byte order, and turned back.
-use Rattle.std.proofs.Common.{◌≡◌, ℕ, suc, ◌+◌, ◌*◌, ◌/◌, ◌%◌, ◌^◌, ◌<◌, ◌⊎◌, ⊎_elim, Bool, true, false, not, ◌&&◌, nat_eq, List, get_or, sym, refl, ap, subst, ◌∙◌, arith}
+use Rattle.std.proofs.Common.{◌≡◌, ℕ, suc, ◌+◌, ◌*◌, ◌/◌, ◌%◌, ◌^◌, ◌<◌, ◌⊎◌, ⊎_elim, Bool, true, false, not, ◌&&◌, nat_eq, List, get_or}
+use Rattle.std.proofs.Common.{sym, refl, ap, subst, ◌∙◌, arith}
 use Rattle.op_list.specs.Pixel.{number_at}
 use Rattle.op_list.specs.Whole.{reversed_bytes}
 use Rattle.op_build.proofs.ByteNumbers.{in_order, one_byte_in_order}
@@ -8,11 +9,13 @@ abbrev pub IsSize : ℕ → Type 0
 IsSize size = (size ≡ 1) ⊎ ((size ≡ 2) ⊎ (size ≡ 4))
 
 -- the lowest byte becomes the highest
-reversed_step : (count low high : ℕ) → low < 256 → reversed_bytes (suc count) (low + 256 * high) ≡ low * 256 ^ count + reversed_bytes count high
+reversed_step : (count low high : ℕ) → low < 256
+    → reversed_bytes (suc count) (low + 256 * high) ≡ low * 256 ^ count + reversed_bytes count high
 reversed_step count low high small =
     let first : (low + 256 * high) % 256 ≡ low = omega arith in
     let rest : (low + 256 * high) / 256 ≡ high = omega arith in
-    ap (λ b. b * 256 ^ count + reversed_bytes count ((low + 256 * high) / 256)) first ∙ ap (λ q. low * 256 ^ count + reversed_bytes count q) rest
+    ap (λ b. b * 256 ^ count + reversed_bytes count ((low + 256 * high) / 256)) first
+    ∙ ap (λ q. low * 256 ^ count + reversed_bytes count q) rest
 
 two_reversed : (a b : ℕ) → a < 256 → b < 256 → reversed_bytes 2 (a + 256 * (b + 256 * 0)) ≡ b + 256 * (a + 256 * 0)
 two_reversed a b p q =
@@ -49,13 +52,17 @@ module _ (frame : List ℕ) (bytes : (k : ℕ) → get_or frame k 0 < 256) where
   back_four false at = refl
 
   -- turned round and back it is the number
-  pub turned_back : (be : Bool) (size at : ℕ) → IsSize size → in_order (be && not (nat_eq size 1)) size (in_order be size (number_at size frame at)) ≡ number_at size frame at
+  pub turned_back : (be : Bool) (size at : ℕ) → IsSize size
+      → in_order (be && not (nat_eq size 1)) size (in_order be size (number_at size frame at)) ≡ number_at size frame at
   turned_back be size at sizes =
       ⊎_elim
-      (λ (one : size ≡ 1). subst (λ s. in_order (be && not (nat_eq s 1)) s (in_order be s (number_at s frame at)) ≡ number_at s frame at) (sym one) (back_one be at))
+      (λ (one : size ≡ 1). subst (λ s. in_order (be && not (nat_eq s 1)) s (in_order be s (number_at s frame at)) ≡ number_at s frame at)
+      (sym one) (back_one be at))
       (λ more. ⊎_elim
-      (λ (two : size ≡ 2). subst (λ s. in_order (be && not (nat_eq s 1)) s (in_order be s (number_at s frame at)) ≡ number_at s frame at) (sym two) (back_two be at))
-      (λ (four : size ≡ 4). subst (λ s. in_order (be && not (nat_eq s 1)) s (in_order be s (number_at s frame at)) ≡ number_at s frame at) (sym four) (back_four be at))
+      (λ (two : size ≡ 2). subst (λ s. in_order (be && not (nat_eq s 1)) s (in_order be s (number_at s frame at)) ≡ number_at s frame at)
+      (sym two) (back_two be at))
+      (λ (four : size ≡ 4). subst (λ s. in_order (be && not (nat_eq s 1)) s (in_order be s (number_at s frame at)) ≡ number_at s frame at)
+      (sym four) (back_four be at))
       more)
       sizes
 
@@ -76,7 +83,15 @@ module _ (frame : List ℕ) (bytes : (k : ℕ) → get_or frame k 0 < 256) where
       let b = get_or frame (at + 1) 0 in
       let c = get_or frame (at + 1 + 1) 0 in
       let d = get_or frame (at + 1 + 1 + 1) 0 in
-      omega (arith, four_reversed a b c d (bytes at) (bytes (at + 1)) (bytes (at + 1 + 1)) (bytes (at + 1 + 1 + 1)), bytes at, bytes (at + 1), bytes (at + 1 + 1), bytes (at + 1 + 1 + 1))
+      omega (
+        arith,
+        four_reversed a b c d (bytes at) (bytes (at + 1)) (bytes (at + 1 + 1)) (bytes (at + 1 + 1 + 1)),
+        bytes at,
+        bytes
+            (at + 1),
+        bytes (at + 1 + 1),
+        bytes (at + 1 + 1 + 1),
+      )
   below_four false at = omega (arith, bytes at, bytes (at + 1), bytes (at + 1 + 1), bytes (at + 1 + 1 + 1))
 
   -- and it fits its bytes

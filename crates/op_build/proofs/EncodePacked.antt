@@ -27,10 +27,20 @@ four_fields n a b c d t1 t2 t3 first second third small =
     let none : n / 2 ^ (t3 + a) < 1 = div_below n (2 ^ (t3 + a)) 1 (pow_pos (t3 + a)) (omega arith) in
     let zero_is : n / 2 ^ (t3 + a) ≡ 0 = omega arith in
     let top : n / 2 ^ (t3 + a) * 2 ^ (t3 + a) ≡ 0 = ap (λ q. q * 2 ^ (t3 + a)) zero_is ∙ omega arith in
-    omega (arith, top, field_more n t3 a (t3 + a) (omega arith), field_more n t2 b t3 third, field_more n t1 c t2 second, field_more n 0 d t1 first)
+    omega (
+      arith,
+      top,
+      field_more n t3 a (t3 + a)
+          (omega arith),
+      field_more n t2 b t3 third,
+      field_more n t1 c t2 second,
+      field_more n 0 d t1 first,
+    )
 
 abbrev IsPacked : List ℕ → Type 0
-IsPacked widths = (n : ℕ) (w : ℕ → ℕ) → n < 2 ^ sum widths → ((p : ℕ) → p < 4 → field widths n p ≡ w p % 2 ^ get_or widths p 0) → packed widths (Numbers (four w)) ≡ n
+IsPacked widths =
+    (n : ℕ) (w : ℕ → ℕ) → n < 2 ^ sum widths → ((p : ℕ) → p < 4 → field widths n p ≡ w p % 2 ^ get_or widths p 0) → packed widths
+    (Numbers (four w)) ≡ n
 
 packed_four : (a b c d : ℕ) → IsPacked (a ∷ b ∷ c ∷ d ∷ [])
 packed_four a b c d n w small same =

@@ -11,17 +11,20 @@ use Rattle.pix_desc.proofs.Bits.{bit_at_field}
 use Rattle.pix_desc.proofs.BitPositions.{position_of, bit_position_is, byte_below, frame_bit, frame_component_below}
 use Rattle.op_list.specs.Pixel.{number_at}
 use Rattle.op_build.proofs.ByteNumbers.{in_order, bit_at_in_order}
-use Rattle.op_build.proofs.WordBits.{bit_in_order, word_place, word_end, number_place, number_end}
+use Rattle.pix_desc.proofs.WordBits.{bit_in_order, word_bit_position, word_end, number_bit_position, number_end}
 
-module _ (desc : Desc) (width rows : ℕ) (frame : List ℕ) (j x row : ℕ) (laid : IsLaidOut desc) (bytes : All (λ byte. byte < 256) frame) (listed : j < desc.count) where
+module _ (desc : Desc) (width rows : ℕ) (frame : List ℕ) (j x row : ℕ) (laid : IsLaidOut desc) (bytes : All (λ byte. byte < 256) frame)
+    (listed : j < desc.count) where
   -- where the pixel begins in the component's plane
   abbrev pub pixel_start : ℕ
   pixel_start = row_start desc width rows (component_of desc j).plane row + x * (component_of desc j).step
 
   -- a field that has the component's bits, in order
   same_field : (count at shift : ℕ) → shift + (component_of desc j).depth ≤ 8 * count
-      → ((i : ℕ) → i < (component_of desc j).depth → 8 * at + bit_in_order desc.be count (shift + i) ≡ 8 * pixel_start + position_of desc (component_of desc j) ((component_of desc j).shift + i))
-      → in_order desc.be count (number_at count frame at) / 2 ^ shift % 2 ^ (component_of desc j).depth ≡ frame_component desc width rows frame j x row
+      → ((i : ℕ) → i < (component_of desc j).depth → 8 * at + bit_in_order desc.be count (shift + i) ≡ 8 * pixel_start + position_of desc
+      (component_of desc j) ((component_of desc j).shift + i))
+      → in_order desc.be count (number_at count frame at) / 2 ^ shift % 2 ^ (component_of desc j).depth
+      ≡ frame_component desc width rows frame j x row
   same_field count at shift within same =
       let c = component_of desc j in
       let number = in_order desc.be count (number_at count frame at) in
@@ -31,15 +34,17 @@ module _ (desc : Desc) (width rows : ℕ) (frame : List ℕ) (j x row : ℕ) (la
       bit_at_field number shift c.depth i inside
       ∙ bit_at_in_order frame desc.be count at (shift + i) (λ k. byte_below frame k bytes) (omega arith)
       ∙ ap (bit_of frame) (same i inside)
-      ∙ sym (frame_bit desc width rows frame j x row i (position_of desc c (c.shift + i)) laid bytes listed inside (bit_position_is desc c i (laid.first j listed))))
+      ∙ sym (frame_bit desc width rows frame j x row i (position_of desc c (c.shift + i)) laid bytes listed inside
+      (bit_position_is desc c i (laid.first j listed))))
 
   -- of the number that it is read from
-  pub element_field : in_order desc.be (bytes_read (component_of desc j)) (number_at (bytes_read (component_of desc j)) frame (pixel_start + count_of (first_byte desc (component_of desc j))))
+  pub element_field : in_order desc.be (bytes_read (component_of desc j))
+      (number_at (bytes_read (component_of desc j)) frame (pixel_start + count_of (first_byte desc (component_of desc j))))
       / 2 ^ (component_of desc j).shift % 2 ^ (component_of desc j).depth ≡ frame_component desc width rows frame j x row
   element_field =
       let c = component_of desc j in
       same_field (bytes_read c) (pixel_start + count_of (first_byte desc c)) c.shift (number_end desc laid j listed)
-      (λ i inside. omega (arith, number_place desc laid j listed i inside))
+      (λ i inside. omega (arith, number_bit_position desc laid j listed i inside))
 
   -- of the whole word
   pub word_field : in_order desc.be (component_of desc j).step (number_at (component_of desc j).step frame pixel_start)
@@ -47,10 +52,11 @@ module _ (desc : Desc) (width rows : ℕ) (frame : List ℕ) (j x row : ℕ) (la
   word_field =
       let c = component_of desc j in
       same_field c.step pixel_start (word_shift desc c) (word_end desc laid j listed)
-      (λ i inside. ap (λ k. 8 * pixel_start + k) (sym (word_place desc laid j listed i inside)))
+      (λ i inside. ap (λ k. 8 * pixel_start + k) (sym (word_bit_position desc laid j listed i inside)))
 
 -- up to the top of a type of so many bits and down again leaves a field of a number
-pub shifted_field : (n shift depth size : ℕ) → shift + depth ≤ size → n * 2 ^ (size - shift - depth) % 2 ^ size / 2 ^ (size - depth) ≡ n / 2 ^ shift % 2 ^ depth
+pub shifted_field : (n shift depth size : ℕ) → shift + depth ≤ size
+    → n * 2 ^ (size - shift - depth) % 2 ^ size / 2 ^ (size - depth) ≡ n / 2 ^ shift % 2 ^ depth
 shifted_field n shift depth size within =
     let up = size - shift - depth in
     let top : size ≡ depth + (up + shift) = omega arith in

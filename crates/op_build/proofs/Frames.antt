@@ -1,5 +1,6 @@
 -- The frames of a format as a list reads and writes them: whole ones, of elements.
-use Rattle.std.proofs.Common.{◌≡◌, ℕ, ◌+◌, ◌*◌, ◌<◌, ◌≤◌, ⊎_elim, Bool, true, false, ◌&&◌, List, [], ◌∷◌, ◌++◌, take, if◌then◌else◌, nat_le, eq-zero-or-pos, eqb-true, sym, refl, ap, ◌∙◌, arith}
+use Rattle.std.proofs.Common.{◌≡◌, ℕ, ◌+◌, ◌*◌, ◌<◌, ◌≤◌, ⊎_elim, Bool, true, false, ◌&&◌, List, [], ◌∷◌, ◌++◌, take, if◌then◌else◌, nat_le}
+use Rattle.std.proofs.Common.{eq-zero-or-pos, eqb-true, sym, refl, ap, ◌∙◌, arith}
 use Rattle.std.specs.Prelude.{sum}
 use Rattle.std.proofs.lemmas.Bool.{and_parts, leb-true, cond-true, cases_Bool}
 use Rattle.std.proofs.lemmas.List.{append_assoc}
@@ -13,19 +14,23 @@ use Rattle.pix_meaning.specs.declared.pair.Pair.{Pair}
 use Rattle.op_list.specs.declared.op.Op.{Op}
 use Rattle.op_list.specs.declared.op.Op.TheVariants.{Write, SwapBytes, Pack, Clear, LeftShift, Swizzle, Convert}
 use Rattle.op_list.specs.Run.{read_length}
-use Rattle.op_list.specs.Typing.{are_counts, are_in_front, is_write, ends_with_write}
-use Rattle.op_build.specs.Frames.{ReadsFrames, FillsFrames}
-use Rattle.op_build.specs.Recipe.{decode, convert, encode, recipe, only_if, split, to_places, spare_zeros}
-use Rattle.op_build.specs.Shape.{element_bytes, element_type, element_counts, field_widths, is_swapped}
+use Rattle.op_list.specs.Typing.{are_counts, are_in_front, ends_with_write}
+use Rattle.op_build.specs.Frames.{ReadsFrames, WritesFrames, FillsFrames}
+use Rattle.op_build.specs.Recipe.{decode, convert, encode, recipe, only_if, split, slot_channels, spare_zeros}
+use Rattle.pix_desc.specs.Shape.{element_bytes, element_counts, field_widths}
+use Rattle.op_build.specs.ElementType.{element_type, is_swapped}
 use Rattle.op_build.proofs.DecodePalette as palette
 use Rattle.op_build.proofs.DecodePalette.{is_byte_format}
 use Rattle.op_build.proofs.DecodePlain as plain
-use Rattle.op_build.proofs.ElementPlaces.{HasElements}
+use Rattle.pix_desc.proofs.ElementSlots.{HasElements}
 use Rattle.op_build.proofs.ElementStarts.{plane_start_is}
-use Rattle.op_build.proofs.Planes.{component_in}
-use Rattle.op_build.proofs.ReadLengths.{elements_length, palette_length}
-use Rattle.op_build.proofs.Shapes.{first_size, has_layout, has_type, element_counts_are_good}
-use Rattle.op_build.proofs.WordShape.{HasWord}
+use Rattle.pix_desc.proofs.PlaneSteps.{component_in}
+use Rattle.op_list.specs.Run.{write_length}
+use Rattle.op_list.proofs.Wholes.{ends_with_write-append, write_length-append}
+use Rattle.op_build.proofs.ReadLengths.{elements_length, palette_length, written_length}
+use Rattle.pix_desc.proofs.PixelSlots.{first_size, has_layout}
+use Rattle.op_build.proofs.ElementTypes.{has_type, element_counts_are_good}
+use Rattle.pix_desc.proofs.WordShape.{HasWord}
 
 -- ---- the bytes of the planes
 
@@ -33,7 +38,8 @@ word_step : (desc : Desc) → IsLaidOut desc → HasWord desc → plane_step des
 word_step desc laid is = ap (plane_step desc) (sym (is.plane 0 laid.some)) ∙ laid.step 0 laid.some ∙ sym is.bytes
 
 -- where all components lie in the first plane, no other has bytes
-first_alone : (desc : Desc) (plane : ℕ) → ((j : ℕ) → j < desc.count → (component_of desc j).plane ≡ 0) → 0 < plane → plane_step desc plane ≡ 0
+first_alone : (desc : Desc) (plane : ℕ) → ((j : ℕ) → j < desc.count → (component_of desc j).plane ≡ 0) → 0 < plane
+    → plane_step desc plane ≡ 0
 first_alone desc plane first other =
     ⊎_elim
     (λ none. none)
@@ -51,7 +57,8 @@ one_plane desc width rows step first is =
       ap (λ t. rows * (width * t)) (first_alone desc 3 first (omega arith)),
     )
 
-word_planes : (desc : Desc) (width rows : ℕ) → IsLaidOut desc → HasWord desc → plane_start desc width rows 4 ≡ width * rows * (sum (element_counts desc) * element_bytes desc)
+word_planes : (desc : Desc) (width rows : ℕ) → IsLaidOut desc → HasWord desc
+    → plane_start desc width rows 4 ≡ width * rows * (sum (element_counts desc) * element_bytes desc)
 word_planes desc width rows laid is =
     one_plane desc width rows (element_bytes desc) is.plane (word_step desc laid is)
     ∙ ap (λ counts. width * rows * (sum counts * element_bytes desc)) (sym is.counts)
@@ -64,9 +71,11 @@ element_planes : (desc : Desc) (width rows : ℕ) → IsLaidOut desc → HasElem
     → plane_start desc width rows 4 ≡ width * rows * (sum (element_counts desc) * element_bytes desc)
 element_planes desc width rows laid is =
     plane_start_is desc (first_size desc) laid is width rows 4 (omega arith)
-    ∙ ap (λ n. width * rows * (n * first_size desc)) (four_taken desc) ∙ ap (λ s. width * rows * (sum (element_counts desc) * s)) (sym is.bytes)
+    ∙ ap (λ n. width * rows * (n * first_size desc)) (four_taken desc)
+    ∙ ap (λ s. width * rows * (sum (element_counts desc) * s)) (sym is.bytes)
 
-planes_are : (desc : Desc) (width rows : ℕ) → IsValid desc → plane_start desc width rows 4 ≡ width * rows * (sum (element_counts desc) * element_bytes desc)
+planes_are : (desc : Desc) (width rows : ℕ) → IsValid desc
+    → plane_start desc width rows 4 ≡ width * rows * (sum (element_counts desc) * element_bytes desc)
 planes_are desc width rows valid =
     ⊎_elim
     (λ is. element_planes desc width rows (laid_out desc valid) is)
@@ -92,7 +101,8 @@ reads_elements : (pair : Pair) (width rows : ℕ) → IsValid pair.from.desc →
 unfolding recipe
 reads_elements pair width rows valid none =
     let desc = pair.from.desc in
-    elements_length (element_type desc) (element_counts desc) (decode desc) (convert pair) (encode pair.to.desc) width rows (plain.decode_is desc (split desc) none refl)
+    elements_length (element_type desc) (element_counts desc) (decode desc) (convert pair) (encode pair.to.desc) width rows
+    (plain.decode_is desc (split desc) none refl)
     ∙ sym ((fills_frames desc valid none).size width rows)
 
 index_count : (rgb alpha : Bool) (n : ℕ) → is_count true rgb alpha n ≡ true → n ≡ 1
@@ -105,8 +115,10 @@ unfolding frame_length
 palette_frame desc width rows valid palette =
     let laid = laid_out desc valid in
     let is = is_byte_format desc valid palette in
-    let count : desc.count ≡ 1 = index_count desc.rgb desc.alpha desc.count (ap (λ p. is_count p desc.rgb desc.alpha desc.count) (sym palette) ∙ (has_no_fault desc valid).counted) in
-    let first = λ (j : ℕ) (listed : j < desc.count). let zero : j ≡ 0 = omega arith in ap (λ i. (component_of desc i).plane) zero ∙ is.plane in
+    let count : desc.count ≡ 1 = index_count desc.rgb desc.alpha desc.count
+    (ap (λ p. is_count p desc.rgb desc.alpha desc.count) (sym palette) ∙ (has_no_fault desc valid).counted) in
+    let first = λ (j : ℕ) (listed : j < desc.count). let zero : j ≡ 0 = omega arith in ap (λ i. (component_of desc i).plane) zero
+    ∙ is.plane in
     let step : plane_step desc 0 ≡ 1 = ap (plane_step desc) (sym is.plane) ∙ laid.step 0 laid.some ∙ is.step in
     omega (arith, one_plane desc width rows 1 first step, cond-true {A = ℕ} desc.palette 1024 0 palette)
 
@@ -123,18 +135,32 @@ reads_frames pair = λ valid width rows.
 
 -- ---- the last operation
 
-last_of : (ops : List Op) (op : Op) → ends_with_write (ops ++ op ∷ []) ≡ is_write op
-unfolding ends_with_write
-last_of [] op = refl
-last_of (first ∷ []) op = refl
-last_of (first ∷ next ∷ ops) op = last_of (next ∷ ops) op
+-- all operations of the recipe but the last
+abbrev pub before_write : Pair → List Op
+before_write pair =
+    let desc = pair.to.desc in
+    decode pair.from.desc ++ convert pair ++ (Convert (element_type desc) false ∷ Swizzle (slot_channels desc) ∷ Clear (spare_zeros desc)
+    ∷ (if is_elements desc then LeftShift (component_of desc 0).shift else Pack (field_widths desc)) ∷ only_if (is_swapped desc) SwapBytes)
+
+abbrev pub last_write : Pair → Op
+last_write pair = Write (element_type pair.to.desc) (element_counts pair.to.desc)
+
+pub recipe_ends : (pair : Pair) → before_write pair ++ last_write pair ∷ [] ≡ recipe pair
+unfolding recipe encode
+recipe_ends pair =
+    let desc = pair.to.desc in
+    let front = Convert (element_type desc) false ∷ Swizzle (slot_channels desc) ∷ Clear (spare_zeros desc)
+    ∷ (if is_elements desc then LeftShift (component_of desc 0).shift else Pack (field_widths desc)) ∷ only_if
+    (is_swapped desc) SwapBytes in
+    append_assoc (decode pair.from.desc ++ convert pair) front (last_write pair ∷ [])
 
 pub is_whole : (pair : Pair) → ends_with_write (recipe pair) ≡ true
-unfolding recipe encode
-is_whole pair =
-    let desc = pair.to.desc in
-    let write = Write (element_type desc) (element_counts desc) in
-    let front = Convert (element_type desc) false ∷ Swizzle (to_places desc) ∷ Clear (spare_zeros desc)
-    ∷ (if is_elements desc then LeftShift (component_of desc 0).shift else Pack (field_widths desc)) ∷ only_if (is_swapped desc) SwapBytes in
-    ap ends_with_write (sym (append_assoc (decode pair.from.desc ++ convert pair) front (write ∷ [])))
-    ∙ last_of (decode pair.from.desc ++ convert pair ++ front) write
+unfolding ends_with_write
+is_whole pair = ap ends_with_write (sym (recipe_ends pair)) ∙ ends_with_write-append (before_write pair) (last_write pair) []
+
+pub writes_frames : (pair : Pair) → WritesFrames pair
+writes_frames pair = λ valid none width rows.
+    ap (λ ops. write_length ops width rows) (sym (recipe_ends pair))
+    ∙ write_length-append (before_write pair) (last_write pair) [] width rows
+    ∙ written_length (element_type pair.to.desc) (element_counts pair.to.desc) width rows
+    ∙ sym ((fills_frames pair.to.desc valid.to none).size width rows)

@@ -1,12 +1,8 @@
 -- The front of a list of operations is one, and what stands behind it may follow.
-use Rattle.std.proofs.Common.{◌≡◌, ◌<◌, true, ◌&&◌, List, [], ◌∷◌, ◌++◌, length, length-append, refl, arith}
-use Rattle.std.proofs.lemmas.Bool.{and_parts, and_from}
+use Rattle.std.proofs.Common.{◌++◌}
 use Rattle.pix_meaning.specs.declared.pair.Pair.{Pair}
 use Rattle.pix_meaning.specs.Pairs.{IsValidPair}
-use Rattle.op_list.specs.declared.op.Op.{Op}
-use Rattle.op_list.specs.declared.types.Stage.{Stage}
-use Rattle.op_list.specs.declared.types.Stage.TheVariants.{Start}
-use Rattle.op_list.specs.Typing.{may_follow, are_good, are_typed, stage_after, stage_from, stage_of, IsOpList}
+use Rattle.op_list.specs.Typing.{IsOpList}
 use Rattle.op_list.proofs.Typed.{front_is_list}
 use Rattle.op_build.specs.Recipe.{decode, convert, encode, recipe}
 use Rattle.op_build.proofs.RecipeTyped.{recipe_is_list}

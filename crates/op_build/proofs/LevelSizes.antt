@@ -21,9 +21,9 @@ use Rattle.pix_meaning.specs.declared.pair.Side.{Side}
 use Rattle.pix_meaning.specs.Pairs.{class_of}
 use Rattle.op_range.specs.FractionBounds.{HasBound, bound}
 use Rattle.op_build.specs.LevelSizes.{AreSmall}
-use Rattle.op_build.specs.Recipe.{channel_levels, channel_depth}
+use Rattle.pix_meaning.specs.Channels.{channel_levels, channel_depth}
 use Rattle.op_range.proofs.FractionBounds.{nat_bound, raised, numerator_most, denominator_most}
-use Rattle.op_build.proofs.Depths.{channel_depth_small, channel_depth_some}
+use Rattle.pix_meaning.proofs.ChannelDepths.{channel_depth_small, channel_depth_some}
 
 -- ---- the levels
 power_small : (depth : ℕ) → depth ≤ 16 → 2 ^ depth ≤ 2 ^ 16
@@ -46,7 +46,11 @@ unfolding levels
 levels_small Luma depth Limited h = (scaled_small depth 219 h (omega arith), scaled_small depth 16 h (omega arith))
 levels_small Chroma depth Limited h = (scaled_small depth 224 h (omega arith), scaled_small depth 128 h (omega arith))
 levels_small Luma depth Full h = (whole_small (2 ^ depth - 1) (omega (arith, power_small depth h)), whole_small 0 (omega arith))
-levels_small Chroma depth Full h = (whole_small (2 ^ depth - 1) (omega (arith, power_small depth h)), whole_small (2 ^ (depth - 1)) (power_small (depth - 1) (omega arith)))
+levels_small Chroma depth Full h = (
+  whole_small (2 ^ depth - 1) (omega (arith, power_small depth h)),
+  whole_small (2 ^ (depth - 1))
+      (power_small (depth - 1) (omega arith)),
+)
 levels_small Direct depth range h = (whole_small (2 ^ depth - 1) (omega (arith, power_small depth h)), whole_small 0 (omega arith))
 
 -- those of a channel of a side
@@ -71,17 +75,21 @@ sign_size (negsuc n) = omega arith
 
 with_sign_fits : (a b c : ℤ) (m n : ℕ) → unsigned_abs a ≤ m → unsigned_abs b ≤ n → m * n < 2 ^ 127 → Fits (a *ℤ b *ℤ int_signum c)
 with_sign_fits a b c m n p q small =
-    product_fits (a *ℤ b) (int_signum c) (m * n) 1 (omega (arith, unsigned_abs-mul a b, mul-le-mul p q)) (sign_size c) (omega (arith, small))
+    product_fits (a *ℤ b) (int_signum c) (m * n) 1 (omega (arith, unsigned_abs-mul a b, mul-le-mul p q)) (sign_size c)
+    (omega (arith, small))
 
 quotient_fits : (x y : ℚ) → HasBound x (bound 256 (2 ^ 24)) → HasBound y (bound 256 (2 ^ 24)) → nat 0 <ℚ y → QuotientFits x y
 quotient_fits x y h k above = record {
   divisor = not_zero y above;
-  numerator = with_sign_fits x.numerator (pos y.denominator) y.numerator (2 ^ 24) 256 (numerator_most x _ h) (denominator_most y _ k) (omega arith);
-  denominator = with_sign_fits (pos x.denominator) y.numerator y.numerator 256 (2 ^ 24) (denominator_most x _ h) (numerator_most y _ k) (omega arith);
+  numerator =
+      with_sign_fits x.numerator (pos y.denominator) y.numerator (2 ^ 24) 256 (numerator_most x _ h) (denominator_most y _ k) (omega arith);
+  denominator =
+      with_sign_fits (pos x.denominator) y.numerator y.numerator 256 (2 ^ 24) (denominator_most x _ h) (numerator_most y _ k) (omega arith);
 }
 
 negative_bound : (x : ℚ) (d n : ℕ) → HasBound x (bound d n) → HasBound (neg_ℚ x) (bound d n)
-negative_bound x d n h = record { numerator = neg_ℤ h.numerator; stands = neg_stands x h.numerator d h.stands; most = omega (arith, ints, h.most) }
+negative_bound x d n h =
+    record { numerator = neg_ℤ h.numerator; stands = neg_stands x h.numerator d h.stands; most = omega (arith, ints, h.most) }
 
 pub inverse_fits : (l : Levels) → AreSmall l → QuotientFits (nat 1) l.scale
 inverse_fits l h = quotient_fits (nat 1) l.scale (whole_small 1 (omega arith)) h.scale h.above
@@ -93,6 +101,7 @@ pub negative_there : (l : Levels) → AreSmall l → checked_product (whole (neg
 negative_there l h =
     checked_product_some (whole (negsuc 0)) l.base (record {
       numerator = product_fits (negsuc 0) l.base.numerator 1 (2 ^ 24) (omega (arith, ints)) (numerator_most l.base _ h.base) (omega arith);
-      denominator = product_fits (pos 1) (pos l.base.denominator) 1 256 (omega (arith, ints)) (denominator_most l.base _ h.base) (omega arith);
+      denominator =
+          product_fits (pos 1) (pos l.base.denominator) 1 256 (omega (arith, ints)) (denominator_most l.base _ h.base) (omega arith);
     })
     ∙ ap Some (sym (neg-is l.base))

@@ -1,14 +1,3 @@
-pub mod Lists
-pub mod Planes
-pub mod Counts
-pub mod ElementPlaces
-pub mod Slots
-pub mod WordBits
-pub mod Ranges
-pub mod WordFields
-pub mod WordLayout
-pub mod WordShape
-pub mod Shapes
 pub mod ByteNumbers
 pub mod ElementStarts
 pub mod FieldValues
@@ -17,12 +6,11 @@ pub mod DecodeRuns
 pub mod DecodePlain
 pub mod DecodePalette
 pub mod Decode
-pub mod ConvertLevels
 pub mod ConvertSteps
 pub mod ConvertClamp
 pub mod Convert
 pub mod EncodeRuns
-pub mod EncodePlaces
+pub mod SlotNumbers
 pub mod EncodeOrder
 pub mod EncodeBits
 pub mod EncodeElements
@@ -31,10 +19,6 @@ pub mod EncodeWord
 pub mod Encode
 pub mod DecodeTyped
 pub mod RecipeTyped
-pub mod Layouts
-pub mod FieldSteps
-pub mod SlotPlaces
-pub mod Depths
 pub mod BoundClasses
 pub mod LevelSizes
 pub mod Means
@@ -45,3 +29,5 @@ pub mod Fronts
 pub mod StepLists
 pub mod ReadLengths
 pub mod Frames
+pub mod ElementTypes
+pub mod ClassTests

@@ -1,11 +1,10 @@
 -- The list of a valid pair means the target rows: decoding, conversion and encoding, one behind the other.
-use Rattle.std.proofs.Common.{◌≡◌, ◌<◌, ℕ, ◌+◌, false, List, ◌++◌, All, refl, ◌∙◌, ap}
+use Rattle.std.proofs.Common.{◌≡◌, ◌<◌, ℕ, ◌+◌, false, List, All, refl, ◌∙◌, ap}
 use Rattle.pix_desc.specs.Frame.{frame_of}
 use Rattle.pix_meaning.specs.declared.pair.Pair.{Pair}
 use Rattle.pix_meaning.specs.Pairs.{IsValidPair}
 use Rattle.pix_meaning.specs.Target.{result_of, target_rows}
 use Rattle.pix_meaning.proofs.TargetLaws.{results_fit}
-use Rattle.op_list.specs.declared.op.Op.{Op}
 use Rattle.op_list.specs.declared.position.PixelPosition.{PixelPosition}
 use Rattle.op_list.specs.declared.types.Stage.TheVariants.{Start}
 use Rattle.op_list.specs.declared.values.Values.TheVariants.{Numbers, Fractions}
@@ -19,22 +18,31 @@ use Rattle.op_build.proofs.Decode.{decode_gives}
 use Rattle.op_build.proofs.Convert.{convert_gives, coded}
 use Rattle.op_build.proofs.Encode.{encode_gives}
 
-recipe_run : (pair : Pair) (frame : List ℕ) (place : PixelPosition) (first : ℕ) → IsValidPair pair → pair.to.desc.palette ≡ false → All (λ byte. byte < 256) frame → place.y ≡ first + place.row
-    → place.x < place.width → place.row < place.rows
-    → run_from frame place Start (recipe pair) no_values
-    ≡ Numbers (elements_at pair.to.desc (frame_of pair.to.desc place.width place.rows (result_of pair place.width place.rows first frame)) place.width place.rows place.x place.row)
+recipe_run : (pair : Pair) (frame : List ℕ) (position : PixelPosition) (first : ℕ) → IsValidPair pair → pair.to.desc.palette ≡ false
+    → All (λ byte. byte < 256) frame → position.y ≡ first + position.row
+    → position.x < position.width → position.row < position.rows
+    → run_from frame position Start (recipe pair) no_values
+    ≡ Numbers
+    (elements_at pair.to.desc
+    (frame_of pair.to.desc position.width position.rows
+    (result_of pair position.width position.rows first frame)) position.width position.rows position.x position.row)
 unfolding recipe
-recipe_run pair frame place first valid none bytes dither across down =
+recipe_run pair frame position first valid none bytes dither across down =
     let stage = stage_from Start (decode pair.from.desc) in
-    let gives = convert_gives pair frame place stage first valid none dither in
-    run_from-three frame place Start (decode pair.from.desc) (convert pair) (encode pair.to.desc) no_values
-    ∙ ap (λ values. run_from frame place (stage_from stage (convert pair)) (encode pair.to.desc) (run_from frame place stage (convert pair) values)) (decode_gives pair.from.desc frame place valid.from bytes)
-    ∙ ap (run_from frame place (stage_from stage (convert pair)) (encode pair.to.desc)) gives.values
-    ∙ ap (λ s. run_from frame place s (encode pair.to.desc) (Fractions (four (coded pair place.width place.rows frame place.x place.row place.y)))) gives.rational
-    ∙ encode_gives pair.to.desc frame place (result_of pair place.width place.rows first frame) (coded pair place.width place.rows frame place.x place.row place.y) valid.to none
-    (results_fit pair place.width place.rows first frame none) gives.floors across down
+    let gives = convert_gives pair frame position stage first valid none dither in
+    run_from-three frame position Start (decode pair.from.desc) (convert pair) (encode pair.to.desc) no_values
+    ∙ ap (λ values. run_from frame position (stage_from stage (convert pair)) (encode pair.to.desc)
+    (run_from frame position stage (convert pair) values)) (decode_gives pair.from.desc frame position valid.from bytes)
+    ∙ ap (run_from frame position (stage_from stage (convert pair)) (encode pair.to.desc)) gives.values
+    ∙ ap (λ s. run_from frame position s (encode pair.to.desc)
+    (Fractions (four (coded pair position.width position.rows frame position.x position.row position.y)))) gives.rational
+    ∙ encode_gives pair.to.desc frame position (result_of pair position.width position.rows first frame)
+    (coded pair position.width position.rows frame position.x position.row position.y) valid.to none
+    (results_fit pair position.width position.rows first frame none) gives.floors across down
 
 pub means_target : (pair : Pair) → MeansItsTarget pair
 unfolding run target_rows
 means_target pair = λ valid none frame width rows first x row bytes size across down.
-    ap (λ values. four (λ i. number values i)) (recipe_run pair frame (record { width = width; rows = rows; x = x; row = row; y = first + row }) first valid none bytes refl across down)
+    ap (λ values. four (λ i. number values i))
+    (recipe_run pair frame
+    (record { width = width; rows = rows; x = x; row = row; y = first + row }) first valid none bytes refl across down)

@@ -1,8 +1,9 @@
 -- The recipe of a valid pair is a list of operations: each may follow those before it and has good arguments, and there are at most 20.
-use Rattle.std.proofs.Common.{◌≡◌, ℕ, ◌+◌, ◌-◌, ◌^◌, ◌<◌, ◌≤◌, ⊎_elim, Bool, true, false, not, ◌&&◌, if◌then◌else◌, List, [], ◌∷◌, ◌++◌, length, get_or, Option, Some, None, sym, refl, ap, subst, ◌∙◌, arith}
+use Rattle.std.proofs.Common.{◌≡◌, ℕ, ◌+◌, ◌^◌, ◌<◌, ◌≤◌, ⊎_elim, Bool, true, false, not, if◌then◌else◌, List, [], ◌∷◌, ◌++◌}
+use Rattle.std.proofs.Common.{length, get_or, Option, Some, None, sym, refl, subst, ◌∙◌, arith}
 use Rattle.std.specs.Prelude.{nat_lt}
 use Rattle.std.specs.List.{list_all}
-use Rattle.std.proofs.lemmas.Bool.{and_from, and_parts, or_right, cond_both, cond-true, cond-false, lt-ltb, le-leb, cases_lt}
+use Rattle.std.proofs.lemmas.Bool.{and_from, or_right, cond_both, cond-true, cond-false, lt-ltb, le-leb, cases_lt}
 use Rattle.std.proofs.lemmas.List.{get_or_past}
 use Rattle.std.proofs.lemmas.Nat.{pow_pos}
 use Rattle.frac_math.specs.Fraction.{ℚ, nat}
@@ -14,25 +15,29 @@ use Rattle.pix_meaning.specs.declared.pair.Pair.{Pair}
 use Rattle.pix_meaning.specs.declared.pair.Side.{Side}
 use Rattle.pix_meaning.specs.Pairs.{IsValidPair, channel_of, is_rgb}
 use Rattle.op_list.specs.declared.op.Op.{Op}
-use Rattle.op_list.specs.declared.op.Op.TheVariants.{Write, SwapBytes, Pack, Clear, LeftShift, Swizzle, Convert, Dither, Linear, Scale, Min, Max}
+use Rattle.op_list.specs.declared.op.Op.TheVariants.{Write, SwapBytes, Pack, Clear, LeftShift, Swizzle, Convert, Dither, Linear, Scale, Min}
+use Rattle.op_list.specs.declared.op.Op.TheVariants.{Max}
 use Rattle.op_list.specs.declared.types.PixType.{PixType}
 use Rattle.op_list.specs.declared.types.PixType.TheVariants.{U8, U16, U32, Rat}
 use Rattle.op_list.specs.declared.types.Stage.{Stage}
 use Rattle.op_list.specs.declared.types.Stage.TheVariants.{Start, Typed, Ended}
 use Rattle.op_list.specs.Types.{bits, is_whole_type, is_wide, is_rational, is_same}
-use Rattle.op_list.specs.Typing.{may_follow, are_good, are_counts, are_typed, all_fit, entry_fits, stage_after, stage_from, IsOpList}
+use Rattle.op_list.specs.Typing.{may_follow, are_good, are_counts, all_fit, entry_fits, stage_after, IsOpList}
 use Rattle.op_list.proofs.Typed.{IsTyped, no_operations, one_more, one_more_if, both_parts}
-use Rattle.op_build.specs.Shape.{element_type, element_counts, field_widths, is_swapped, slots}
+use Rattle.pix_desc.specs.Shape.{element_counts, field_widths, slots}
+use Rattle.op_build.specs.ElementType.{element_type, is_swapped}
 use Rattle.op_build.specs.Codes.{decoded_type}
-use Rattle.op_build.specs.Recipe.{decode, convert, encode, recipe, only_if, from_codes, to_codes, to_places, source_of, spare_zero, spare_zeros}
+use Rattle.op_build.specs.Recipe.{decode, convert, encode, recipe, only_if, from_codes, to_codes, slot_channels, source_of, spare_zero}
+use Rattle.op_build.specs.Recipe.{spare_zeros}
 use Rattle.op_build.proofs.Decode.{decode_stage}
 use Rattle.op_build.proofs.DecodeTyped.{decode_typed}
-use Rattle.op_build.proofs.ElementPlaces.{HasElements}
-use Rattle.op_build.proofs.EncodePlaces.{channel_below}
+use Rattle.pix_desc.proofs.ElementSlots.{HasElements}
+use Rattle.op_build.proofs.SlotNumbers.{channel_below}
 use Rattle.op_list.proofs.Four.{four_hold}
-use Rattle.op_build.proofs.Shapes.{first_size, has_layout, has_places, has_type, element_counts_are_good, field_widths_are_good}
-use Rattle.op_build.proofs.WordBits.{number_end}
-use Rattle.op_build.proofs.WordShape.{HasWord}
+use Rattle.pix_desc.proofs.PixelSlots.{first_size, has_layout, has_slots}
+use Rattle.op_build.proofs.ElementTypes.{has_type, element_counts_are_good, field_widths_are_good}
+use Rattle.pix_desc.proofs.WordBits.{number_end}
+use Rattle.pix_desc.proofs.WordShape.{HasWord}
 
 -- ---- the first part
 
@@ -60,11 +65,13 @@ unfolding may_follow are_good stage_after
 codes_step true by rows last ops most rest = one_more (Typed Rat) (Typed Rat) last (Scale by) ops most refl refl refl rest
 codes_step false by rows last ops most rest = one_more (Typed Rat) (Typed Rat) last (Linear rows) ops most refl refl refl rest
 
-from_codes_step : (side : Side) (last : Stage) (ops : List Op) (most : ℕ) → IsTyped (Typed Rat) ops last most → IsTyped (Typed Rat) (from_codes side ∷ ops) last (most + 1)
+from_codes_step : (side : Side) (last : Stage) (ops : List Op) (most : ℕ) → IsTyped (Typed Rat) ops last most
+    → IsTyped (Typed Rat) (from_codes side ∷ ops) last (most + 1)
 unfolding from_codes
 from_codes_step side last ops most rest = codes_step _ _ _ last ops most rest
 
-to_codes_step : (side : Side) (last : Stage) (ops : List Op) (most : ℕ) → IsTyped (Typed Rat) ops last most → IsTyped (Typed Rat) (to_codes side ∷ ops) last (most + 1)
+to_codes_step : (side : Side) (last : Stage) (ops : List Op) (most : ℕ) → IsTyped (Typed Rat) ops last most
+    → IsTyped (Typed Rat) (to_codes side ∷ ops) last (most + 1)
 unfolding to_codes
 to_codes_step side last ops most rest = codes_step _ _ _ last ops most rest
 
@@ -74,7 +81,8 @@ unfolding may_follow are_good stage_after
 linear_step needed rows last ops most rest = one_more_if needed (Typed Rat) last (Linear rows) ops most (λ _. refl) refl refl rest
 
 -- two of them
-linear_steps : (needed also : Bool) (rows others : List (List ℚ)) (last : Stage) (ops : List Op) (most : ℕ) → IsTyped (Typed Rat) ops last most
+linear_steps : (needed also : Bool) (rows others : List (List ℚ)) (last : Stage) (ops : List Op) (most : ℕ)
+    → IsTyped (Typed Rat) ops last most
     → IsTyped (Typed Rat) (only_if needed (Linear rows) ++ only_if also (Linear others) ++ ops) last (most + 2)
 unfolding may_follow are_good stage_after
 linear_steps true also rows others last ops most rest =
@@ -92,7 +100,8 @@ last_steps k low high within =
     (one_more (Typed Rat) (Typed Rat) (Typed Rat) (Max low) (Min high ∷ []) 1 refl refl refl
     (one_more (Typed Rat) (Typed Rat) (Typed Rat) (Min high) [] 0 refl refl refl (no_operations (Typed Rat))))
 
-first_convert : (elem : PixType) (ops : List Op) (last : Stage) (most : ℕ) → IsTyped (Typed Rat) ops last most → IsTyped (Typed elem) (Convert Rat false ∷ ops) last (most + 1)
+first_convert : (elem : PixType) (ops : List Op) (last : Stage) (most : ℕ) → IsTyped (Typed Rat) ops last most
+    → IsTyped (Typed elem) (Convert Rat false ∷ ops) last (most + 1)
 unfolding may_follow are_good stage_after
 first_convert elem ops last most rest = one_more (Typed elem) (Typed Rat) last (Convert Rat false) ops most refl refl refl rest
 
@@ -112,14 +121,14 @@ source_below desc p (Some j) below held = lt-ltb (channel_of desc j) 4 (channel_
 
 slot_below : (desc : Desc) (p j : ℕ) → IsValid desc → get_or (slots desc) p None ≡ Some j → j < 4
 slot_below desc p j valid here =
-    let places = has_places desc valid in
+    let positions = has_slots desc valid in
     ⊎_elim
-    (λ (inside : p < length (slots desc)). omega (arith, (places.only p j inside here).0, (laid_out desc valid).most))
+    (λ (inside : p < length (slots desc)). omega (arith, (positions.only p j inside here).0, (laid_out desc valid).most))
     (λ (past : length (slots desc) ≤ p). let none : None ≡ Some j = sym (get_or_past (slots desc) p None past) ∙ here in absurd cc)
     (cases_lt p (length (slots desc)))
 
-to_places_fit : (desc : Desc) → IsValid desc → list_all (λ i. nat_lt i 4) (to_places desc) ≡ true
-to_places_fit desc valid =
+slot_channels_fit : (desc : Desc) → IsValid desc → list_all (λ i. nat_lt i 4) (slot_channels desc) ≡ true
+slot_channels_fit desc valid =
     four_hold (λ p. nat_lt (source_of desc p (get_or (slots desc) p None)) 4)
     (λ p below. source_below desc p (get_or (slots desc) p None) below (λ j here. slot_below desc p j valid here))
 
@@ -129,11 +138,13 @@ zero_fits count = lt-ltb 0 (2 ^ count) (pow_pos count)
 spare_fits : (desc : Desc) (count p : ℕ) (slot : Option ℕ) → entry_fits count (spare_zero desc p slot) ≡ true
 spare_fits desc count p (Some j) = refl
 spare_fits desc count p None =
-    cond_both (nat_lt p (length (slots desc))) (Some (nat 0)) None (λ entry. entry_fits count entry ≡ true) (λ _. zero_fits count) (λ _. refl)
+    cond_both (nat_lt p (length (slots desc))) (Some (nat 0)) None (λ entry. entry_fits count entry ≡ true) (λ _. zero_fits count)
+    (λ _. refl)
 
 spare_zeros_fit : (desc : Desc) (count : ℕ) → all_fit count (spare_zeros desc) ≡ true
 spare_zeros_fit desc count =
-    four_hold (λ p. entry_fits count (spare_zero desc p (get_or (slots desc) p None))) (λ p below. spare_fits desc count p (get_or (slots desc) p None))
+    four_hold (λ p. entry_fits count (spare_zero desc p (get_or (slots desc) p None)))
+    (λ p below. spare_fits desc count p (get_or (slots desc) p None))
 
 same_type : (elem : PixType) → is_same elem elem ≡ true
 same_type U8 = refl
@@ -142,30 +153,35 @@ same_type U32 = refl
 same_type Rat = refl
 
 -- What is wanted of the arguments of an encoding, whose elements are put together by `joins`.
-record AreArguments (elem : PixType) (counts : List ℕ) (swapped : Bool) (places : List ℕ) (entries : List (Option ℚ)) (joins : Op) : Type 0 where
+record AreArguments (elem : PixType) (counts : List ℕ) (swapped : Bool) (positions : List ℕ) (entries : List (Option ℚ))
+    (joins : Op) : Type 0 where
   whole : is_whole_type elem ≡ true
   good : are_counts 4 counts ≡ true
   wide : swapped ≡ true → is_wide (Typed elem) ≡ true
-  within : list_all (λ i. nat_lt i 4) places ≡ true
+  within : list_all (λ i. nat_lt i 4) positions ≡ true
   fit : all_fit (bits elem) entries ≡ true
   follows : may_follow (Typed elem) joins ≡ true
   fits : are_good (Typed elem) joins ≡ true
   stays : stage_after (Typed elem) joins ≡ Typed elem
 
-encode_steps : (elem : PixType) (counts : List ℕ) (swapped : Bool) (places : List ℕ) (entries : List (Option ℚ)) (joins : Op) → AreArguments elem counts swapped places entries joins
-    → IsTyped (Typed Rat) (Convert elem false ∷ Swizzle places ∷ Clear entries ∷ joins ∷ only_if swapped SwapBytes ++ Write elem counts ∷ []) Ended 6
+encode_steps : (elem : PixType) (counts : List ℕ) (swapped : Bool) (positions : List ℕ) (entries : List (Option ℚ)) (joins : Op)
+    → AreArguments elem counts swapped positions entries joins
+    → IsTyped (Typed Rat)
+    (Convert elem false ∷ Swizzle positions ∷ Clear entries ∷ joins ∷ only_if swapped SwapBytes ++ Write elem counts ∷ []) Ended 6
 unfolding may_follow are_good stage_after
-encode_steps elem counts swapped places entries joins are =
+encode_steps elem counts swapped positions entries joins are =
     one_more (Typed Rat) (Typed elem) Ended (Convert elem false) _ 5 refl refl refl
-    (one_more (Typed elem) (Typed elem) Ended (Swizzle places) _ 4 refl are.within refl
-    (one_more (Typed elem) (Typed elem) Ended (Clear entries) _ 3 refl (or_right (is_rational (Typed elem)) (all_fit (bits elem) entries) are.fit) refl
+    (one_more (Typed elem) (Typed elem) Ended (Swizzle positions) _ 4 refl are.within refl
+    (one_more (Typed elem) (Typed elem) Ended (Clear entries) _ 3 refl
+    (or_right (is_rational (Typed elem)) (all_fit (bits elem) entries) are.fit) refl
     (one_more (Typed elem) (Typed elem) Ended joins _ 2 are.follows are.fits are.stays
     (one_more_if swapped (Typed elem) Ended SwapBytes _ 1 are.wide refl refl
-    (one_more (Typed elem) Ended Ended (Write elem counts) [] 0 (same_type elem) (and_from (is_whole_type elem) (are_counts 4 counts) are.whole are.good) refl (no_operations Ended))))))
+    (one_more (Typed elem) Ended Ended (Write elem counts) [] 0 (same_type elem)
+    (and_from (is_whole_type elem) (are_counts 4 counts) are.whole are.good) refl (no_operations Ended))))))
 
 module _ (desc : Desc) (valid : IsValid desc) where
   abbrev joining : Op → Type 0
-  joining joins = AreArguments (element_type desc) (element_counts desc) (is_swapped desc) (to_places desc) (spare_zeros desc) joins
+  joining joins = AreArguments (element_type desc) (element_counts desc) (is_swapped desc) (slot_channels desc) (spare_zeros desc) joins
 
   arguments : (joins : Op) → may_follow (Typed (element_type desc)) joins ≡ true → are_good (Typed (element_type desc)) joins ≡ true
       → stage_after (Typed (element_type desc)) joins ≡ Typed (element_type desc) → joining joins
@@ -175,20 +191,22 @@ module _ (desc : Desc) (valid : IsValid desc) where
         whole = typed.whole;
         good = element_counts_are_good desc valid;
         wide = typed.wide;
-        within = to_places_fit desc valid;
+        within = slot_channels_fit desc valid;
         fit = spare_zeros_fit desc (bits (element_type desc));
         follows = follows;
         fits = fits;
         stays = stays;
       }
 
-  element_arguments : HasElements desc (first_size desc) → joining (if is_elements desc then LeftShift (component_of desc 0).shift else Pack (field_widths desc))
+  element_arguments : HasElements desc (first_size desc)
+      → joining (if is_elements desc then LeftShift (component_of desc 0).shift else Pack (field_widths desc))
   unfolding may_follow are_good stage_after
   element_arguments is =
       let laid = laid_out desc valid in
       let typed = has_type desc valid in
       let shift = (component_of desc 0).shift in
-      let room : shift < bits (element_type desc) = omega (arith, number_end desc laid 0 laid.some, typed.bits, is.bytes, laid.deep 0 laid.some) in
+      let room : shift < bits (element_type desc) = omega
+      (arith, number_end desc laid 0 laid.some, typed.bits, is.bytes, laid.deep 0 laid.some) in
       subst joining (sym (cond-true (is_elements desc) (LeftShift shift) (Pack (field_widths desc)) is.elements))
       (arguments (LeftShift shift) typed.whole (lt-ltb shift (bits (element_type desc)) room) refl)
 
@@ -202,7 +220,7 @@ module _ (desc : Desc) (valid : IsValid desc) where
   encode_part : IsTyped (Typed Rat) (encode desc) Ended 6
   unfolding encode
   encode_part =
-      encode_steps (element_type desc) (element_counts desc) (is_swapped desc) (to_places desc) (spare_zeros desc) _
+      encode_steps (element_type desc) (element_counts desc) (is_swapped desc) (slot_channels desc) (spare_zeros desc) _
       (⊎_elim element_arguments word_arguments (has_layout desc valid))
 
 -- ---- the whole
@@ -212,8 +230,12 @@ unfolding recipe
 recipe_typed pair valid =
     let elem = decoded_type pair.from.desc in
     both_parts Start (Typed Rat) Ended (decode pair.from.desc ++ convert pair) (encode pair.to.desc) 14 6
-    (both_parts Start (Typed elem) (Typed Rat) (decode pair.from.desc) (convert pair) 6 8 (decode_part pair.from.desc valid.from) (convert_part pair elem valid.dither))
+    (both_parts Start (Typed elem) (Typed Rat) (decode pair.from.desc) (convert pair) 6 8 (decode_part pair.from.desc valid.from)
+    (convert_part pair elem valid.dither))
     (encode_part pair.to.desc valid.to)
 
 pub recipe_is_list : (pair : Pair) → IsValidPair pair → IsOpList (recipe pair)
 recipe_is_list pair valid = let is = recipe_typed pair valid in record { typed = is.typed; size = omega (arith, is.size) }
+
+pub recipe_is_short : (pair : Pair) → IsValidPair pair → length (recipe pair) ≤ 20
+recipe_is_short pair valid = (recipe_typed pair valid).size

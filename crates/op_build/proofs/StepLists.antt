@@ -1,5 +1,6 @@
 -- The operations of steps that stand one behind the other.
-use Rattle.std.proofs.Common.{◌≡◌, ◌<◌, ℕ, ◌+◌, Bool, true, false, List, [], ◌∷◌, ◌++◌, length, take, drop, get_or, Option, Some, None, sym, refl, ap, subst, ◌∙◌}
+use Rattle.std.proofs.Common.{◌≡◌, ◌<◌, ℕ, ◌+◌, Bool, true, false, List, [], ◌∷◌, ◌++◌, length, take, drop, get_or, Option, Some, None, sym}
+use Rattle.std.proofs.Common.{refl, ap, subst, ◌∙◌}
 use Rattle.std.proofs.lemmas.List.{append_assoc, take-append-drop, take_more}
 use Rattle.op_list.specs.declared.op.Op.{Op}
 use Rattle.op_list.specs.Typing.{IsOpList}
@@ -13,7 +14,8 @@ operations-append (None ∷ first) second = operations-append first second
 operations-append (Some op ∷ first) second = ap (λ ops. op ∷ ops) (operations-append first second)
 
 -- a step that is there where there is need of it
-pub operations-if : (needed : Bool) (op : Op) (steps : List (Option Op)) → operations (step_if needed op ∷ steps) ≡ only_if needed op ++ operations steps
+pub operations-if : (needed : Bool) (op : Op) (steps : List (Option Op))
+    → operations (step_if needed op ∷ steps) ≡ only_if needed op ++ operations steps
 operations-if true op steps = refl
 operations-if false op steps = refl
 
@@ -25,7 +27,8 @@ operations-if-if false true op other steps = refl
 operations-if-if false false op other steps = refl
 
 -- the operations of two steps between others
-pub operations-between : (needed : Bool) (op : Op) (first second : Option Op) (middle : List Op) (steps : List (Option Op)) → operations (first ∷ second ∷ []) ≡ middle
+pub operations-between : (needed : Bool) (op : Op) (first second : Option Op) (middle : List Op) (steps : List (Option Op))
+    → operations (first ∷ second ∷ []) ≡ middle
     → operations (step_if needed op ∷ first ∷ second ∷ steps) ≡ only_if needed op ++ middle ++ operations steps
 operations-between needed op first second middle steps is =
     operations-if needed op (first ∷ second ∷ steps)
@@ -41,7 +44,8 @@ one_step_more ops steps k step within is =
     ∙ sym (append_assoc ops (operations (take k steps)) (operations (step ∷ [])))
 
 -- behind a list that all steps may follow, so may the first ones
-pub next_is_list : (ops : List Op) (steps : List (Option Op)) (k : ℕ) (step : Option Op) → k < length steps → step ≡ get_or steps k step → IsOpList (ops ++ operations steps)
+pub next_is_list : (ops : List Op) (steps : List (Option Op)) (k : ℕ) (step : Option Op) → k < length steps → step ≡ get_or steps k step
+    → IsOpList (ops ++ operations steps)
     → IsOpList (ops ++ operations (take k steps) ++ operations (step ∷ []))
 next_is_list ops steps k step within here is =
     let front = take (k + 1) steps in
@@ -50,4 +54,5 @@ next_is_list ops steps k step within here is =
     ap (λ s. ops ++ operations s) (sym (take-append-drop (k + 1) steps))
     ∙ ap (λ more. ops ++ more) (operations-append front rest)
     ∙ sym (append_assoc ops (operations front) (operations rest)) in
-    subst IsOpList (one_step_more ops steps k step within here) (front_is_list (ops ++ operations front) (operations rest) (subst IsOpList all is))
+    subst IsOpList (one_step_more ops steps k step within here)
+    (front_is_list (ops ++ operations front) (operations rest) (subst IsOpList all is))

@@ -2,8 +2,6 @@
 use Rattle.std.specs.Prelude.{◌≡◌, ◌<◌, true, ℕ, if◌then◌else◌, List, All}
 use Rattle.pix_desc.specs.declared.desc.Desc.{Desc}
 use Rattle.pix_desc.specs.Layouts.{IsValid}
-use Rattle.pix_meaning.specs.Pairs.{has_channel, component_at}
-use Rattle.pix_meaning.specs.Values.{source_component}
 use Rattle.op_list.specs.declared.position.PixelPosition.{PixelPosition}
 use Rattle.op_list.specs.declared.types.PixType.{PixType}
 use Rattle.op_list.specs.declared.types.PixType.TheVariants.{U8}
@@ -13,18 +11,15 @@ use Rattle.op_list.specs.Types.{is_whole_type}
 use Rattle.op_list.specs.Typing.{stage_from}
 use Rattle.op_list.specs.Values.{four, no_values}
 use Rattle.op_list.specs.Run.{run_from}
-use Rattle.op_build.specs.Shape.{element_type}
-use Rattle.op_build.specs.Recipe.{decode, missing_code}
-
--- the code of a channel: its component's, and that of a missing channel where the format has it not
-unfoldable pub code_of : Desc → ℕ → ℕ → List ℕ → ℕ → ℕ → ℕ → ℕ
-code_of desc width rows frame x row c =
-    if has_channel desc c then source_component desc width rows frame (component_at desc c) x row else missing_code desc c
+use Rattle.op_build.specs.ElementType.{element_type}
+use Rattle.pix_meaning.specs.Channels.{code_of}
+use Rattle.op_build.specs.Recipe.{decode}
 
 -- decoding gives the codes of the channels at a pixel
 abbrev pub GivesCodes : Desc → List ℕ → PixelPosition → Type 0
-GivesCodes desc frame place = IsValid desc → All (λ byte. byte < 256) frame
-    → run_from frame place Start (decode desc) no_values ≡ Numbers (four (code_of desc place.width place.rows frame place.x place.row))
+GivesCodes desc frame position = IsValid desc → All (λ byte. byte < 256) frame
+    → run_from frame position Start (decode desc) no_values
+    ≡ Numbers (four (code_of desc position.width position.rows frame position.x position.row))
 
 -- the type of the codes
 abbrev pub decoded_type : Desc → PixType

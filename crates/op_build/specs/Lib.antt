@@ -1,8 +1,8 @@
-pub mod Shape
+pub mod ElementType
 pub mod Recipe
 pub mod Codes
 pub mod Meaning
-pub mod BoundClasses
+pub mod SideClasses
 pub mod LevelSizes
 pub mod Steps
 pub mod Frames

@@ -1,30 +1,29 @@
 -- The list of operations of a conversion. Steps that change nothing stand in it too.
-use Rattle.std.specs.Prelude.{ℕ, ◌-◌, ◌^◌, Bool, not, ◌&&◌, if◌then◌else◌, nat_lt, nat_eq, List, [], ◌∷◌, ◌++◌, length, slice_index_or, Option, Some, None}
+use Rattle.std.specs.Prelude.{ℕ, ◌-◌, ◌^◌, Bool, not, ◌&&◌, if◌then◌else◌, nat_lt, nat_eq, List, [], ◌∷◌, ◌++◌, length, slice_index_or}
+use Rattle.std.specs.Prelude.{Option, Some, None}
 use Rattle.frac_math.specs.Fraction.{ℚ, nat, neg_ℚ, ◌/ℚ◌, equal_ℚ}
 use Rattle.pix_desc.specs.declared.desc.Desc.{Desc}
 use Rattle.pix_desc.specs.Component.{component_of}
 use Rattle.pix_desc.specs.Layouts.{is_elements}
 use Rattle.colour_matrix.specs.declared.class.Levels.{Levels}
-use Rattle.colour_matrix.specs.Levels.{levels}
 use Rattle.colour_matrix.specs.Values.{coefficient, row_at}
 use Rattle.colour_matrix.specs.Colour.{to_rgb_rows, from_rgb_rows}
 use Rattle.pix_meaning.specs.declared.pair.Side.{Side}
 use Rattle.pix_meaning.specs.declared.pair.Pair.{Pair}
-use Rattle.pix_meaning.specs.Pairs.{is_rgb, has_channel, component_at, channel_of, class_of, depth_of}
+use Rattle.pix_meaning.specs.Pairs.{is_rgb, has_channel, component_at, channel_of}
+use Rattle.pix_meaning.specs.Channels.{channel_depth, channel_levels, missing_code}
 use Rattle.op_list.specs.declared.types.PixType.TheVariants.{U8, Rat}
 use Rattle.op_list.specs.declared.op.Op.{Op}
-use Rattle.op_list.specs.declared.op.Op.TheVariants.{Read, Write, SwapBytes, Unpack, Pack, Clear, LeftShift, RightShift, Swizzle, Convert, Dither, Linear, Scale, Min, Max}
+use Rattle.op_list.specs.declared.op.Op.TheVariants.{Read, Write, SwapBytes, Unpack, Pack, Clear, LeftShift, RightShift, Swizzle, Convert}
+use Rattle.op_list.specs.declared.op.Op.TheVariants.{Dither, Linear, Scale, Min, Max}
 use Rattle.op_list.specs.Types.{bits}
 use Rattle.op_list.specs.Values.{four}
-use Rattle.op_build.specs.Shape.{element_type, element_counts, is_swapped, field_widths, slots, position_of}
+use Rattle.pix_desc.specs.Shape.{element_counts, field_widths, slots, position_of}
+use Rattle.op_build.specs.ElementType.{element_type, is_swapped}
 
 -- an operation, where there is need of it
 abbrev pub only_if : Bool → Op → List Op
 only_if needed op = if needed then op ∷ [] else []
-
--- the depth by which a channel goes that the format has not: that of component 0
-abbrev pub channel_depth : Desc → ℕ → ℕ
-channel_depth desc c = if has_channel desc c then depth_of desc (component_at desc c) else depth_of desc 0
 
 -- ---- from the elements of a source pixel to the codes of its channels
 
@@ -36,13 +35,9 @@ split desc =
     if is_elements desc then LeftShift (size - c.shift - c.depth) ∷ RightShift (size - c.depth) ∷ []
     else Unpack (field_widths desc) ∷ []
 
--- channel c is taken from its component's place, and from place c where it is missing
-abbrev pub from_places : Desc → List ℕ
-from_places desc = four (λ c. if has_channel desc c then position_of desc (component_at desc c) else c)
-
--- a missing chroma is in the middle of the codes, and a missing alpha is the greatest code
-abbrev pub missing_code : Desc → ℕ → ℕ
-missing_code desc c = if nat_eq c 3 then 2 ^ depth_of desc 0 - 1 else 2 ^ (depth_of desc 0 - 1)
+-- channel c is taken from its component's position, and from position c where it is missing
+abbrev pub channel_slots : Desc → List ℕ
+channel_slots desc = four (λ c. if has_channel desc c then position_of desc (component_at desc c) else c)
 
 abbrev pub missing_codes : Desc → List (Option ℚ)
 missing_codes desc = four (λ c. if has_channel desc c then None else Some (nat (missing_code desc c)))
@@ -51,12 +46,9 @@ unfoldable pub decode : Desc → List Op
 decode desc =
     if desc.palette then Read U8 (1 ∷ 0 ∷ 0 ∷ 0 ∷ []) Bool.true ∷ Clear (missing_codes desc) ∷ []
     else Read (element_type desc) (element_counts desc) Bool.false
-    ∷ only_if (is_swapped desc) SwapBytes ++ split desc ++ Swizzle (from_places desc) ∷ Clear (missing_codes desc) ∷ []
+    ∷ only_if (is_swapped desc) SwapBytes ++ split desc ++ Swizzle (channel_slots desc) ∷ Clear (missing_codes desc) ∷ []
 
 -- ---- from the codes of a source pixel to those of a target pixel, not yet rounded
-
-abbrev pub channel_levels : Side → ℕ → Levels
-channel_levels side c = levels (class_of side.desc c) (channel_depth side.desc c) side.range
 
 -- all four scales are equal, and all bases are 0
 abbrev pub are_plain : (ℕ → Levels) → Bool
@@ -80,7 +72,8 @@ over_three rows = four (λ i. linear_row (λ j.
 -- codes to values by the levels of the channels: value = code / scale - base / scale
 abbrev pub from_codes_by : (ℕ → Levels) → Op
 from_codes_by l =
-    if are_plain l then Scale (nat 1 /ℚ (l 0).scale) else Linear (diagonal (λ c. nat 1 /ℚ (l c).scale) (λ c. neg_ℚ (l c).base /ℚ (l c).scale))
+    if are_plain l then Scale (nat 1 /ℚ (l 0).scale) else Linear
+    (diagonal (λ c. nat 1 /ℚ (l c).scale) (λ c. neg_ℚ (l c).base /ℚ (l c).scale))
 
 unfoldable pub from_codes : Side → Op
 from_codes side = from_codes_by (channel_levels side)
@@ -106,15 +99,15 @@ convert pair =
 
 -- ---- from the codes of a target pixel to its elements
 
--- a place takes the channel of its component; a spare place and one that is not there take what stands at that place
+-- a position takes the channel of its component; a spare position and one that is not there take what stands at that position
 abbrev pub source_of : Desc → ℕ → Option ℕ → ℕ
 source_of desc p None = p
 source_of desc p (Some j) = channel_of desc j
 
-abbrev pub to_places : Desc → List ℕ
-to_places desc = four (λ p. source_of desc p (slice_index_or (slots desc) p None))
+abbrev pub slot_channels : Desc → List ℕ
+slot_channels desc = four (λ p. source_of desc p (slice_index_or (slots desc) p None))
 
--- 0 for the spare places that are there
+-- 0 for the spare positions that are there
 abbrev pub spare_zero : Desc → ℕ → Option ℕ → Option ℚ
 spare_zero desc p (Some j) = None
 spare_zero desc p None = if nat_lt p (length (slots desc)) then Some (nat 0) else None
@@ -124,7 +117,7 @@ spare_zeros desc = four (λ p. spare_zero desc p (slice_index_or (slots desc) p 
 
 unfoldable pub encode : Desc → List Op
 encode desc =
-    Convert (element_type desc) Bool.false ∷ Swizzle (to_places desc) ∷ Clear (spare_zeros desc)
+    Convert (element_type desc) Bool.false ∷ Swizzle (slot_channels desc) ∷ Clear (spare_zeros desc)
     ∷ (if is_elements desc then LeftShift (component_of desc 0).shift else Pack (field_widths desc))
     ∷ only_if (is_swapped desc) SwapBytes ++ Write (element_type desc) (element_counts desc) ∷ []
 

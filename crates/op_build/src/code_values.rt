@@ -5,14 +5,14 @@ ghost use Rattle.frac_math.specs.Checked.{QuotientFits};
 ghost use Rattle.colour_matrix.specs.declared.class.Levels.{Levels};
 ghost use Rattle.pix_desc.specs.Layouts.{IsValid};
 ghost use Rattle.op_list.specs.Values.{four, fraction_in};
-ghost use Rattle.op_build.specs.Recipe.{channel_levels, are_plain, diagonal, from_codes, to_codes};
+ghost use Rattle.pix_meaning.specs.Channels.{channel_levels};
+ghost use Rattle.op_build.specs.Recipe.{are_plain, diagonal, from_codes, to_codes};
 ghost use Rattle.op_build.specs.LevelSizes.{AreSmall};
 
-use crate::colour::channel_levels;
 use colour_matrix::Levels;
 use frac_math::Frac;
 use op_list::Op;
-use pix_meaning::Side;
+use pix_meaning::{Side, channel_levels};
 
 // The levels of the four channels of a side.
 fn side_levels(side: &Side) -> [Levels; 4]

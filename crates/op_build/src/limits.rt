@@ -3,12 +3,13 @@ ghost use Rattle.std.specs.Prelude.{◌≡◌, ◌<◌, ◌-◌, ◌^◌, Some, 
 ghost use Rattle.frac_math.specs.Fraction.{nat};
 ghost use Rattle.pix_desc.specs.Layouts.{IsValid};
 ghost use Rattle.pix_meaning.specs.Pairs.{has_channel};
-ghost use Rattle.op_build.specs.Recipe.{limits, channel_depth};
+ghost use Rattle.pix_meaning.specs.Channels.{channel_depth};
+ghost use Rattle.op_build.specs.Recipe.{limits};
 
-use crate::channel::{channel_depth, has_channel};
 use crate::sources::power;
 use frac_math::Frac;
 use pix_desc::Desc;
+use pix_meaning::{channel_depth, has_channel};
 
 fn least(desc: &Desc, c: u8) -> Option<Frac>
     ensures { result ≡ (if has_channel desc.now c then Some (nat 0) else None) }
@@ -35,7 +36,8 @@ pub fn least_codes(desc: &Desc) -> [Option<Frac>; 4]
 fn greatest(desc: &Desc, c: u8) -> Option<Frac>
     requires valid { IsValid desc.now }
     requires channel { c < 4 }
-    ensures { result ≡ (if has_channel desc.now c then Some (nat (2 ^ channel_depth desc.now c - 1)) else None) }
+    ensures { result ≡ (if has_channel desc.now c then Some
+        (nat (2 ^ channel_depth desc.now c - 1)) else None) }
 {
     if has_channel(desc, c) {
         let code = power(channel_depth(desc, c)).saturating_sub(1);

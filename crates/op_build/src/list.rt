@@ -61,8 +61,10 @@ fn append_recipe(list: &mut OpList, pair: &Pair) -> Result<(), BuildFault>
     append_steps(list, &encode(&pair.to.desc))
 }
 
-/// The list of operations of a conversion, by the recipe, where the pair is valid. It is whole, and at every pixel of every source frame it gives the
-/// elements of the target rows. PaletteTarget comes exactly where the target is a palette format, and OutOfMemory where an allocation is refused.
+/// The list of operations of a conversion, by the recipe, where the pair is valid. It is whole, and
+/// at every pixel of every source frame it gives the
+/// elements of the target rows. PaletteTarget comes exactly where the target is a palette format,
+/// and OutOfMemory where an allocation is refused.
 pub fn build(alloc: Global, pair: &Pair) -> Result<OpList, BuildFault>
     requires { IsValidPair pair.now }
     ensures list { IfOk result (λ list. list ≡ recipe pair.now) }

@@ -1,15 +1,16 @@
-// Where the channels of a source pixel are taken from, and the codes of those that the format has not.
+// Where the channels of a source pixel are taken from, and the codes of those that the format has
+// not.
 ghost use Rattle.std.specs.Prelude.{◌≡◌, ◌<◌, ◌≤◌, ◌^◌, false, Some, None, if◌then◌else◌};
 ghost use Rattle.frac_math.specs.Fraction.{nat};
 ghost use Rattle.pix_desc.specs.Layouts.{IsValid};
 ghost use Rattle.pix_meaning.specs.Pairs.{has_channel, component_at};
-ghost use Rattle.op_build.specs.Shape.{position_of};
-ghost use Rattle.op_build.specs.Recipe.{from_places, missing_code, missing_codes};
+ghost use Rattle.pix_desc.specs.Shape.{position_of};
+ghost use Rattle.pix_meaning.specs.Channels.{missing_code};
+ghost use Rattle.op_build.specs.Recipe.{channel_slots, missing_codes};
 
-use crate::channel::{component_at, depth_of, has_channel};
-use crate::numbers::position_of;
 use frac_math::Frac;
-use pix_desc::Desc;
+use pix_desc::{Desc, position_of};
+use pix_meaning::{component_at, depth_of, has_channel};
 
 /// 2^exponent.
 pub fn power(exponent: u8) -> u32
@@ -57,11 +58,12 @@ pub fn missing_codes(desc: &Desc) -> [Option<Frac>; 4]
     ]
 }
 
-fn from_place(desc: &Desc, c: u8) -> u8
+fn channel_slot(desc: &Desc, c: u8) -> u8
     requires valid { IsValid desc.now }
     requires plain { desc.now.palette ≡ false }
     requires channel { c < 4 }
-    ensures { result ≡ (if has_channel desc.now c then position_of desc.now (component_at desc.now c) else c) }
+    ensures { result ≡ (if has_channel desc.now c then position_of desc.now
+        (component_at desc.now c) else c) }
 {
     if has_channel(desc, c) {
         position_of(desc, component_at(desc, c))
@@ -70,16 +72,16 @@ fn from_place(desc: &Desc, c: u8) -> u8
     }
 }
 
-/// The places that the channels are taken from.
-pub fn from_places(desc: &Desc) -> [u8; 4]
+/// The slots that the channels are taken from.
+pub fn channel_slots(desc: &Desc) -> [u8; 4]
     requires valid { IsValid desc.now }
     requires plain { desc.now.palette ≡ false }
-    ensures { result ≡ from_places desc.now }
+    ensures { result ≡ channel_slots desc.now }
 {
     [
-        from_place(desc, 0),
-        from_place(desc, 1),
-        from_place(desc, 2),
-        from_place(desc, 3),
+        channel_slot(desc, 0),
+        channel_slot(desc, 1),
+        channel_slot(desc, 2),
+        channel_slot(desc, 3),
     ]
 }

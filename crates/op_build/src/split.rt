@@ -3,12 +3,11 @@ ghost use Rattle.std.specs.Prelude.{◌≡◌, ◌-◌, true};
 ghost use Rattle.pix_desc.specs.Component.{component_of};
 ghost use Rattle.pix_desc.specs.Layouts.{IsValid, is_elements};
 ghost use Rattle.op_list.specs.Types.{bits};
-ghost use Rattle.op_build.specs.Shape.{element_type};
+ghost use Rattle.op_build.specs.ElementType.{element_type};
 
-use crate::shape::element_type;
-use crate::word::component_of;
+use crate::element_kind::element_type;
 use op_list::PixType;
-use pix_desc::Desc;
+use pix_desc::{Desc, component_of};
 
 // The bits of an element.
 fn element_bits(desc: &Desc) -> u8
@@ -22,7 +21,8 @@ fn element_bits(desc: &Desc) -> u8
 pub fn left_shift(desc: &Desc) -> u8
     requires valid { IsValid desc.now }
     requires elements { is_elements desc.now ≡ true }
-    ensures { result ≡ bits (element_type desc.now) - (component_of desc.now 0).shift - (component_of desc.now 0).depth }
+    ensures { result ≡ bits (element_type desc.now) - (component_of desc.now 0).shift -
+        (component_of desc.now 0).depth }
 {
     let comp = component_of(desc, 0);
     element_bits(desc)

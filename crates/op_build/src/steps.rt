@@ -3,22 +3,20 @@ ghost use Rattle.std.specs.Prelude.{◌≡◌, true, false, if◌then◌else◌,
 ghost use Rattle.pix_desc.specs.Component.{component_of};
 ghost use Rattle.pix_desc.specs.Layouts.{IsValid, is_elements};
 ghost use Rattle.pix_meaning.specs.Pairs.{IsValidPair};
-ghost use Rattle.op_build.specs.Shape.{field_widths};
+ghost use Rattle.pix_desc.specs.Shape.{field_widths};
 ghost use Rattle.op_build.specs.Recipe.{split, decode, convert, encode};
 ghost use Rattle.op_build.specs.Steps.{step_if, operations};
 
 use crate::code_values::{from_codes, to_codes};
+use crate::element_kind::{element_type, is_swapped};
 use crate::limits::{greatest_codes, least_codes};
-use crate::numbers::field_widths;
-use crate::places::{spare_zeros, to_places};
 use crate::rows::over_three;
-use crate::shape::{element_counts, element_type, is_elements, is_swapped};
-use crate::sources::{from_places, missing_codes};
+use crate::sources::{channel_slots, missing_codes};
 use crate::split::{left_shift, right_shift};
-use crate::word::component_of;
+use crate::target_slots::{slot_channels, spare_zeros};
 use colour_matrix::{from_rgb, to_rgb};
 use op_list::{Op, PixType};
-use pix_desc::Desc;
+use pix_desc::{Desc, component_of, element_counts, field_widths, is_elements};
 use pix_meaning::{Pair, is_rgb};
 
 // An operation, where there is need of it.
@@ -83,7 +81,7 @@ fn decode_plain(desc: &Desc) -> [Option<Op>; 6]
         first,
         second,
         Some(Op::Swizzle {
-            from: from_places(desc),
+            from: channel_slots(desc),
         }),
         Some(Op::Clear {
             values: missing_codes(desc),
@@ -163,7 +161,8 @@ pub fn convert(pair: &Pair) -> [Option<Op>; 8]
 // Puts an element or a word together.
 fn join(desc: &Desc) -> Op
     requires { IsValid desc.now }
-    ensures { result ≡ (if is_elements desc.now then Op.LeftShift (component_of desc.now 0).shift else Op.Pack (field_widths desc.now)) }
+    ensures { result ≡ (if is_elements desc.now then Op.LeftShift
+        (component_of desc.now 0).shift else Op.Pack (field_widths desc.now)) }
 {
     if is_elements(desc) {
         Op::LeftShift {
@@ -187,7 +186,7 @@ pub fn encode(desc: &Desc) -> [Option<Op>; 6]
             expand: false,
         }),
         Some(Op::Swizzle {
-            from: to_places(desc),
+            from: slot_channels(desc),
         }),
         Some(Op::Clear {
             values: spare_zeros(desc),

@@ -1,5 +1,5 @@
 -- Where a checked answer is there, it is the exact one.
-use Rattle.std.proofs.Common.{◌≡◌, ℕ, List, [], ◌∷◌, ◌++◌, refl, ◌∙◌, ap}
+use Rattle.std.proofs.Common.{◌≡◌, ℕ, List, [], ◌∷◌, refl, ◌∙◌, ap}
 use Rattle.std.specs.Prelude.{Option, Some, None}
 use Rattle.std.specs.Option.{option_map}
 use Rattle.std.proofs.lemmas.Option.{same_Some, option_and_then_some, cond_some, none-some}
@@ -13,7 +13,7 @@ use Rattle.op_list.specs.declared.op.Op.TheVariants.{Dither, Linear, Scale}
 use Rattle.op_list.specs.declared.values.Values.{Values}
 use Rattle.op_list.specs.declared.values.Values.TheVariants.{Fractions}
 use Rattle.op_list.specs.Values.{four, all_four, fraction, fraction_in, no_values}
-use Rattle.op_list.specs.Typing.{stage_after, stage_from}
+use Rattle.op_list.specs.Typing.{stage_after}
 use Rattle.op_list.specs.Apply.{apply, row_of, row_value}
 use Rattle.op_list.specs.Checked.{checked_apply, checked_row, checked_term}
 use Rattle.op_list.specs.Run.{run_from, checked_run_from, run, checked_run}

@@ -5,6 +5,7 @@ pub mod Fields
 pub mod Fitting
 pub mod Four
 pub mod GivenEntries
+pub mod GoodCounts
 pub mod Indices
 pub mod Ordered
 pub mod ReversedBytes

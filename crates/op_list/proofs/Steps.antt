@@ -16,7 +16,7 @@ use Rattle.op_list.specs.declared.op.Op.TheVariants.{Dither, Linear, Scale, Min,
 use Rattle.op_list.specs.declared.values.Values.{Values}
 use Rattle.op_list.specs.declared.values.Values.TheVariants.{Numbers, Fractions}
 use Rattle.op_list.specs.Types.{is_start, is_rational, is_whole_type}
-use Rattle.op_list.specs.Typing.{may_follow, are_good, stage_after, stage_from, are_typed, are_counts, is_write, ends_with_write, IsOpList}
+use Rattle.op_list.specs.Typing.{may_follow, are_good, stage_after, stage_from, are_counts, is_write, ends_with_write, IsOpList}
 use Rattle.op_list.specs.Values.{are_fractions, no_values, four, number}
 use Rattle.op_list.specs.Apply.{apply, cleared, swizzled, converted}
 use Rattle.op_list.specs.Checked.{checked_apply}

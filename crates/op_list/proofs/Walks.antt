@@ -1,19 +1,19 @@
 -- The laws of the walk of a list.
-use Rattle.std.proofs.Common.{◌≡◌, ℕ, ◌+◌, Bool, true, false, ◌&&◌, List, [], ◌∷◌, ◌++◌, length, length-append, refl, sym, ◌∙◌, ap, arith}
+use Rattle.std.proofs.Common.{◌≡◌, ℕ, Bool, true, false, ◌&&◌, List, [], ◌∷◌, ◌++◌, length-append, refl, sym, ◌∙◌, ap, arith}
 use Rattle.std.specs.Prelude.{Option, Some, None}
 use Rattle.std.specs.Option.{option_and_then}
 use Rattle.op_list.specs.declared.types.Stage.{Stage}
 use Rattle.op_list.specs.declared.position.PixelPosition.{PixelPosition}
 use Rattle.op_list.specs.declared.op.Op.{Op}
 use Rattle.op_list.specs.declared.values.Values.{Values}
-use Rattle.op_list.specs.Typing.{may_follow, are_good, stage_after, stage_from, are_typed}
+use Rattle.op_list.specs.Typing.{may_follow, are_good, stage_from, are_typed}
 use Rattle.op_list.specs.Apply.{apply}
 use Rattle.op_list.specs.Checked.{checked_apply}
 use Rattle.op_list.specs.Run.{run_from, checked_run_from}
-use Rattle.op_list.specs.Walk.{WalksInParts, AppendsOperation, MayReplace, ReplacesPart, RunsAlike, EveryListWalksInParts, EveryListAppends}
+use Rattle.op_list.specs.Walk.{MayReplace, EveryListWalksInParts, EveryListAppends}
 use Rattle.op_list.specs.Walk.{EveryPartIsReplaced, EveryFrontRunsAlike}
 use Rattle.op_list.proofs.Typed.{typed_both, typed_fronts, are_typed-append, stage_from-append, stage_from_one}
-use Rattle.op_list.proofs.Runs.{run_from-append, checked_run_from-append, run_end}
+use Rattle.op_list.proofs.Runs.{run_from-append, checked_run_from-append}
 
 pub walks_in_parts : EveryListWalksInParts
 walks_in_parts front rest = record {

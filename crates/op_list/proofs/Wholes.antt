@@ -8,6 +8,7 @@ use Rattle.op_list.specs.declared.op.Op.{Op}
 use Rattle.op_list.specs.declared.op.Op.TheVariants.{Read, Write, SwapBytes, Unpack, Pack, Clear, LeftShift, RightShift, Swizzle, Convert}
 use Rattle.op_list.specs.declared.op.Op.TheVariants.{Dither, Linear, Scale, Min, Max}
 use Rattle.op_list.specs.Typing.{may_follow, stage_after, stage_from, are_typed, is_write, ends_with_write}
+use Rattle.op_list.specs.Run.{write_length}
 use Rattle.op_list.proofs.Typed.{typed_parts}
 
 -- nothing may follow where the elements are written
@@ -59,6 +60,13 @@ unfolding ends_with_write
 ends_with_write-append [] op rest = refl
 ends_with_write-append (first ∷ []) op rest = refl
 ends_with_write-append (first ∷ next ∷ front) op rest = ends_with_write-append (next ∷ front) op rest
+
+-- the bytes that a list writes are those of its rest
+pub write_length-append : (front : List Op) (op : Op) (rest : List Op) (width rows : ℕ)
+    → write_length (front ++ op ∷ rest) width rows ≡ write_length (op ∷ rest) width rows
+write_length-append [] op rest width rows = refl
+write_length-append (first ∷ []) op rest width rows = refl
+write_length-append (first ∷ next ∷ front) op rest width rows = write_length-append (next ∷ front) op rest width rows
 
 -- behind an operation that is no Write
 pub last_behind : (op : Op) (ops : List Op) → is_write op ≡ false → ends_with_write (op ∷ ops) ≡ true → ends_with_write ops ≡ true

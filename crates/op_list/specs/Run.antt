@@ -18,6 +18,12 @@ abbrev pub read_length : List Op → ℕ → ℕ → ℕ
 read_length [] width rows = 0
 read_length (op ∷ ops) width rows = frame_length op width rows
 
+-- the bytes of the frame that a whole list writes
+abbrev pub write_length : List Op → ℕ → ℕ → ℕ
+write_length [] width rows = 0
+write_length (op ∷ []) width rows = frame_length op width rows
+write_length (op ∷ next ∷ ops) width rows = write_length (next ∷ ops) width rows
+
 -- the values after some operations
 unfoldable pub run_from : List ℕ → PixelPosition → Stage → List Op → Values → Values
 run_from frame position stage [] values = values

@@ -1,5 +1,5 @@
 -- The walk of a list: by its parts, with an operation more, and with a part replaced.
-use Rattle.std.specs.Prelude.{◌≡◌, ◌≤◌, ℕ, ◌+◌, Bool, true, false, ◌&&◌, List, [], ◌∷◌, ◌++◌, length, Some}
+use Rattle.std.specs.Prelude.{◌≡◌, ◌≤◌, ℕ, ◌+◌, true, false, ◌&&◌, List, [], ◌∷◌, ◌++◌, length, Some}
 use Rattle.std.specs.Option.{option_and_then}
 use Rattle.op_list.specs.declared.types.Stage.{Stage}
 use Rattle.op_list.specs.declared.position.PixelPosition.{PixelPosition}

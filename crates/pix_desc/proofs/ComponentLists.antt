@@ -22,7 +22,7 @@ pub list_all-true : {X : Type 0} (p : X → Bool) (xs : List X) (j : ℕ) (d : X
 list_all-true p xs j d all within =
     true_from_ne_false (p (get_or xs j d)) (λ e. both_ways (list_all p xs) (list_all_at p xs j d within e) all)
 
--- the same of a list that is made from a function of the index
+-- a test over a list that is made from a function of the index fails at each index, or passes at one
 pub list_any-map_false : {X : Type 0} (f : ℕ → X) (p : X → Bool) (n j : ℕ) → list_any p (map f (range_with_len 0 n)) ≡ false → j < n
     → p (f j) ≡ false
 list_any-map_false f p n j none within =
@@ -37,7 +37,7 @@ list_all-map_true f p n j all within =
     let long : j < length (map f (range_with_len 0 n)) = omega (arith, length-map-range_with_len f 0 n) in
     ap p (sym at) ∙ list_all-true p (map f (range_with_len 0 n)) j (f j) all long
 
--- and of the numbers below n
+-- a test over the numbers below n
 pub list_any-below_false : (p : ℕ → Bool) (n k : ℕ) → list_any p (range_with_len 0 n) ≡ false → k < n → p k ≡ false
 list_any-below_false p n k none within =
     let at : get_or (range_with_len 0 n) k 0 ≡ k = omega (arith, get_or-range_with_len 0 n k 0 within) in
@@ -80,7 +80,7 @@ list_any-below_at p n some =
     let at : any.1 ≡ 0 + any.0 = sym any.3 ∙ get_or-range_with_len 0 n any.0 any.1 within in
     (any.1, omega (arith, at, within), any.4)
 
--- and what some component is
+-- where some component passes a test, component j of some j does
 pub some_component-at : (desc : Desc) (has : Comp → Bool) → some_component desc has ≡ true
     → (i : ℕ) × (i < desc.count) × (has (component_of desc i) ≡ true)
 some_component-at desc has some =

@@ -13,7 +13,7 @@ pub frame_says : (desc : Desc) (width height : ℕ) (value : ℕ → ℕ → ℕ
     → IsFrameOf desc width height value (frame_of desc width height value)
 frame_says desc width height value valid none fit = Exists.frame_says desc width height value (laid_out desc valid) fit none
 
--- a frame that says them is that one
+-- a frame that says values is the one that is made of them
 pub only_frame : (desc : Desc) (width height : ℕ) (value : ℕ → ℕ → ℕ → ℕ) (frame : List ℕ) → IsValid desc → desc.palette ≡ false
     → IsFrameOf desc width height value frame
     → frame ≡ frame_of desc width height value

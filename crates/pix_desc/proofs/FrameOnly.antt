@@ -24,7 +24,7 @@ module _ (desc : Desc) (width height : ℕ) (value : ℕ → ℕ → ℕ → ℕ
       ∙ ap (λ n. bit_at n i) (first.reads j x y by.listed column row ∙ sym (second.reads j x y by.listed column row))
       ∙ frame_bit_by desc width height b p x y k j i laid second.bytes by
 
-  -- so is one that is spare, and each bit of a pixel is one or the other
+  -- a spare bit is 0 in both, and each bit of a pixel is read or spare
   same_bit : (a b : List ℕ) → IsFrameOf desc width height value a → IsFrameOf desc width height value b → (p x y k : ℕ) → x < width
       → y < height → k < 8 * plane_step desc p
       → let at = 8 * (row_start desc width height p y + x * plane_step desc p) + k in bit_of a at ≡ bit_of b at

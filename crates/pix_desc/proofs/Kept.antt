@@ -113,7 +113,7 @@ unread desc i j x y b v listed_i listed_j plane apart below =
       | inl other ↦ out.apart i j a b listed_i listed_j other plane found.1 below (position_c.0 ∙ ap pos one.1 ∙ sym position_d.0)
     ])
 
--- so a write of one leaves the other as it is
+-- a write of one component leaves the other as it is
 pub component-kept : (desc : Desc) (i j x y : ℕ) (old new : List ℕ) → IsValid desc → i < desc.count → j < desc.count
     → (component_of desc i).plane ≡ (component_of desc j).plane → (i ≢ j) ⊎ (x ≢ y)
     → All (λ byte. byte < 256) old → All (λ byte. byte < 256) new → KeepsOtherBits desc i x old new

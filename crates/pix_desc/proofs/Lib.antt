@@ -14,3 +14,17 @@ pub mod FrameExists
 pub mod FrameOnly
 pub mod FrameLaws
 pub mod FrameValues
+pub mod RangeSearch
+pub mod RangeCounts
+pub mod PlaneSteps
+pub mod CheckedLayout
+pub mod ElementCounts
+pub mod ElementSlots
+pub mod WordBits
+pub mod WordFields
+pub mod WordLayout
+pub mod WordShape
+pub mod FieldSteps
+pub mod SlotSearch
+pub mod PixelSlots
+pub mod SlotsHeld

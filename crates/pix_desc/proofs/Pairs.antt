@@ -45,7 +45,7 @@ list_all-not_any p (c ∷ cs) = denied (p c) (list_all p cs) (list_any (λ d. no
     denied true b n e = e
     denied false b n e = refl
 
--- the two tests of layouts that are so
+-- `differ_in_step` and `differ_in_shape` are such tests
 pub some_two-differ_in_step : (cs : List Comp) → list_any (λ a. list_any (differ_in_step a) cs) cs ≡ some_two differ_in_step cs
 some_two-differ_in_step cs = some_two-all differ_in_step cs (λ a. grind (arith, nat_tests)) (λ a b. grind (arith, nat_tests))
 

@@ -97,7 +97,7 @@ others_none p (c ∷ cs) =
     same_other : (q p e : ℕ) → nat_eq q p ≡ true → not (nat_eq e p) ≡ (not (nat_eq e q) && not (nat_eq e p))
     same_other q p e here = grind (arith, nat_tests)
 
--- and this plane is the first's
+-- the one plane of all components is the first's
 one_more : (n : ℕ) → nat_eq n 0 ≡ nat_eq (suc n) 1
 one_more n = grind (arith, nat_tests)
 

@@ -28,7 +28,7 @@ replaced n s d v = bit_or (bit_and n (2 ^ 16 - 1 - (2 ^ (s + d) - 2 ^ s))) (v * 
 top_of : (s d : ℕ) → s + d ≤ 16 → 2 ^ (s + d) - 2 ^ s < 2 ^ 16
 top_of s d fits = let most : 2 ^ (s + d) ≤ 2 ^ 16 = pow-le-pow_right (omega arith) fits in omega (arith, most, pow_pos s)
 
--- what 16 bits compute is that
+-- the code's `or` of 16 bits gives the number with its bits replaced
 pub replaced_by_or : (n s d v : ℕ) → s + d ≤ 16 → v < 2 ^ d
     → bit_or (bit_and n (65535 - (1 * 2 ^ d % 4294967296 - 1) * 2 ^ s % 65536)) (v * 2 ^ s % 65536) ≡ replaced n s d v
 replaced_by_or n s d v fits value =
@@ -73,7 +73,7 @@ replaced_above n s d v i fits number value above =
           ∙ sym (bit_at_above n 16 i number past)
     ]
 
--- and the d bits are v's
+-- the d bits from s on are v's
 pub replaced_value : (n s d v : ℕ) → s + d ≤ 16 → v < 2 ^ d → replaced n s d v / 2 ^ s % 2 ^ d ≡ v
 replaced_value n s d v fits value =
     same_from_bits_below d (replaced n s d v / 2 ^ s % 2 ^ d) v (mod-lt (replaced n s d v / 2 ^ s) (pow_pos d)) value (λ i below.

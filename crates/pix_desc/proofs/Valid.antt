@@ -85,7 +85,7 @@ plane_used desc j p all listed below =
     let at = some_component-at desc (λ d. nat_eq d.plane p) one in
     (at.0, at.1, eqb-true (component_of desc at.0).plane p at.2)
 
--- so four components have planes below four
+-- the planes of up to four components are below four
 plane_below : (desc : Desc) (j : ℕ) → has_all_planes desc ≡ true → desc.count ≤ 4 → j < desc.count → (component_of desc j).plane < 4
 plane_below desc j all most listed =
     let plane_of = λ (i : ℕ). (component_of desc i).plane in

@@ -7,7 +7,7 @@ use Rattle.std.specs.Ordering.{int_eq}
 use Rattle.pix_desc.specs.declared.desc.Comp.{Comp}
 use Rattle.pix_desc.specs.declared.desc.Desc.{Desc}
 
--- the component of no bits
+-- the component of no bits: the entry behind those that a descriptor has
 abbrev pub no_component : Comp
 no_component = record { plane = 0; step = 0; offset = pos 0; shift = 0; depth = 0 }
 
@@ -23,6 +23,7 @@ components desc = map (component_of desc) (range_with_len 0 desc.count)
 abbrev pub is_narrow : Comp → Bool
 is_narrow c = nat_le (c.shift + c.depth) 8
 
+-- how many bytes a component is read from
 abbrev pub bytes_read : Comp → ℕ
 bytes_read c = if is_narrow c then 1 else 2
 

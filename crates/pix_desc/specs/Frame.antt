@@ -11,13 +11,15 @@ abbrev pub step_in : ℕ → List Comp → ℕ
 step_in plane [] = 0
 step_in plane (c ∷ cs) = if nat_eq c.plane plane then c.step else step_in plane cs
 
+-- the bytes of a pixel in a plane of the format
 abbrev pub plane_step : Desc → ℕ → ℕ
 plane_step desc plane = step_in plane (components desc)
 
--- the bytes of a row of a plane, and of a plane
+-- the bytes of a row of a plane
 abbrev pub row_length : Desc → ℕ → ℕ → ℕ
 row_length desc width plane = width * plane_step desc plane
 
+-- the bytes of a plane
 abbrev pub plane_length : Desc → ℕ → ℕ → ℕ → ℕ
 plane_length desc width height plane = height * row_length desc width plane
 

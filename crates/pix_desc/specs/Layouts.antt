@@ -21,14 +21,16 @@ is_count false true true n = nat_eq n 4
 is_count false false false n = nat_eq n 1 || nat_eq n 3
 is_count false false true n = nat_eq n 2 || nat_eq n 4
 
--- whether some component has the property, and whether some two have it
+-- whether some component has the property
 abbrev pub some_component : Desc → (Comp → Bool) → Bool
 some_component desc has = list_any has (components desc)
 
+-- whether an earlier and a later one of these components have the property
 abbrev pub some_two : (Comp → Comp → Bool) → List Comp → Bool
 some_two have [] = false
 some_two have (c ∷ cs) = list_any (have c) cs || some_two have cs
 
+-- whether an earlier and a later component of the descriptor have it
 abbrev pub some_pair : Desc → (Comp → Comp → Bool) → Bool
 some_pair desc have = some_two have (components desc)
 
@@ -40,14 +42,16 @@ is_depth c = nat_le 1 c.depth && nat_le c.depth 16 && nat_le (c.shift + c.depth)
 abbrev pub share_bit : Desc → Comp → Comp → Bool
 share_bit desc a b = list_any (λ i. reads_bit desc b (bit_position desc a i)) (range_with_len 0 a.depth)
 
+-- whether two components of one plane read a common bit of the pixel
 abbrev pub overlap : Desc → Comp → Comp → Bool
 overlap desc a b = nat_eq a.plane b.plane && share_bit desc a b
 
--- what is read lies in the pixel, which has 1 to 8 bytes
+-- the bytes that a component is read from lie in its pixel, which has 1 to 8 bytes
 abbrev pub is_inside : Desc → Comp → Bool
 is_inside desc c = nat_le 1 c.step && nat_le c.step 8 && le_z (pos 0) (first_byte desc c) && le_z (first_byte desc c +ℤ pos (bytes_read c))
     (pos c.step)
 
+-- two components of one plane differ in step
 abbrev pub differ_in_step : Comp → Comp → Bool
 differ_in_step a b = nat_eq a.plane b.plane && not (nat_eq a.step b.step)
 
@@ -56,19 +60,20 @@ abbrev pub one_a_plane : List Comp → List Comp
 one_a_plane [] = []
 one_a_plane (c ∷ cs) = c ∷ filter (λ d. not (nat_eq d.plane c.plane)) (one_a_plane cs)
 
--- two components have other bits of their numbers
+-- two components differ in shift or in depth
 abbrev pub differ_in_shape : Comp → Comp → Bool
 differ_in_shape a b = not (nat_eq a.shift b.shift && nat_eq a.depth b.depth)
 
--- the numbers that components are read from stand one after the other
+-- the number that a component is read from begins at a multiple of its size, and so does the next pixel's
 abbrev pub is_aligned : Desc → Comp → Bool
 is_aligned desc c = nat_eq (count_of (first_byte desc c) % bytes_read c) 0 && nat_eq (c.step % bytes_read c) 0
 
--- how many numbers a pixel has in all its planes
+-- how many numbers of its components' size a pixel has in all its planes
 abbrev pub element_count : List Comp → ℕ
 element_count cs = sum_by (λ c. c.step / bytes_read c) (one_a_plane cs)
 
--- Elements: a pixel is up to four numbers of equal size, and each holds one component, all at the same bits
+-- Elements: the pixel is at most four aligned numbers of one size, and all components have the same shift and depth, so that no number
+-- holds two of them; a number may hold none
 abbrev pub is_elements : Desc → Bool
 is_elements desc = not (some_pair desc differ_in_shape) && list_all (is_aligned desc) (components desc) && nat_le
     (element_count (components desc)) 4
@@ -79,18 +84,19 @@ word_shift desc c =
     let first = count_of (first_byte desc c) in
     8 * (if desc.be then c.step - first - bytes_read c else first) + c.shift
 
--- whether a bit of that number belongs to a component, and whether to none
+-- whether a bit of that number belongs to a component
 abbrev pub has_word_bit : Desc → ℕ → Comp → Bool
 has_word_bit desc bit c = nat_le (word_shift desc c) bit && nat_lt bit (word_shift desc c + c.depth)
 
+-- whether a bit of that number belongs to no component
 abbrev pub is_spare : Desc → ℕ → Bool
 is_spare desc bit = not (some_component desc (has_word_bit desc bit))
 
--- where a run of such bits begins
+-- whether a run of spare bits begins at a bit
 abbrev pub begins_spare : Desc → ℕ → Bool
 begins_spare desc bit = is_spare desc bit && (nat_eq bit 0 || not (is_spare desc (bit - 1)))
 
--- how many such runs a pixel of so many bytes has
+-- how many runs of spare bits a pixel of so many bytes has
 abbrev pub spare_runs : Desc → ℕ → ℕ
 spare_runs desc step = count_by (begins_spare desc) (range_with_len 0 (8 * step))
 
@@ -98,7 +104,7 @@ spare_runs desc step = count_by (begins_spare desc) (range_with_len 0 (8 * step)
 abbrev pub has_few_fields : Desc → ℕ → Bool
 has_few_fields desc step = (nat_eq step 1 || nat_eq step 2 || nat_eq step 4) && nat_le (desc.count + spare_runs desc step) 4
 
--- Word: a pixel lies in one plane, and is such a number
+-- Word: the pixel lies in one plane, and is one number of 1, 2 or 4 bytes with at most four fields
 abbrev pub is_word : Desc → Bool
 is_word desc = nat_eq (length (one_a_plane (components desc))) 1 && list_all (λ c. has_few_fields desc c.step) (components desc)
 

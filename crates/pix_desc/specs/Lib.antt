@@ -1,3 +1,4 @@
 pub mod Component
 pub mod Layouts
 pub mod Frame
+pub mod Shape

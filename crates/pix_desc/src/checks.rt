@@ -64,7 +64,7 @@ fn is_depth(comp: &Comp) -> bool
     1 <= comp.depth && u16::from(comp.shift) + u16::from(comp.depth) <= 16
 }
 
-/// Whether some component has another depth.
+/// Whether some component has a depth that is refused.
 fn has_wrong_depth(desc: &Desc) -> bool
     requires { desc.now.count ≤ 4 }
     ensures { result ≡ some_component desc.now (λ c. not (is_depth c)) }
@@ -103,7 +103,7 @@ fn is_inside(desc: &Desc, comp: &Comp) -> bool
     1 <= comp.step && comp.step <= 8 && 0 <= first && end <= i32::from(comp.step)
 }
 
-/// Whether some component is not.
+/// Whether some component is read from bytes outside its pixel.
 fn reads_outside(desc: &Desc) -> bool
     requires { desc.now.count ≤ 4 }
     ensures { result ≡ some_component desc.now (λ c. not (is_inside desc.now c)) }
@@ -140,7 +140,7 @@ fn is_byte(comp: &Comp) -> bool
     comp.plane == 0 && comp.step == 1 && comp.offset == 0 && comp.shift == 0 && comp.depth == 8
 }
 
-/// Whether each component is.
+/// Whether each component is the only byte of its pixel.
 fn has_bytes_alone(comps: &[Comp]) -> bool
     ensures { result ≡ list_all is_byte comps.now }
 {
@@ -166,7 +166,7 @@ fn is_mixed(desc: &Desc) -> bool
         || (desc.palette && !is_index(desc))
 }
 
-/// Whether a component lies in each plane below one.
+/// Whether a component lies in each plane below this one.
 fn has_planes_below(desc: &Desc, plane: u8) -> bool
     requires { desc.now.count ≤ 4 }
     ensures { result ≡ list_all (λ p. some_component desc.now (λ c. nat_eq c.plane p))
@@ -175,7 +175,7 @@ fn has_planes_below(desc: &Desc, plane: u8) -> bool
     (0..plane).all(|below| is_used(components(desc), below))
 }
 
-/// Whether a component lies in each plane below one that is used.
+/// Whether a component lies in each plane below every plane that is used.
 fn has_all_planes(desc: &Desc) -> bool
     requires { desc.now.count ≤ 4 }
     ensures { result ≡ has_all_planes desc.now }

@@ -17,8 +17,8 @@ pub struct Comp {
 }
 
 /// A pixel format, after FFmpeg's AVPixFmtDescriptor. Components stand in the order R, G, B for RGB
-/// formats and
-/// Y, U, V otherwise, with alpha last. The entries of `comps` from `count` on are ignored.
+/// formats and Y, U, V otherwise, with alpha last. The entries of `comps` from `count` on are
+/// ignored.
 #[derive(Clone, Copy, Debug, PartialEq, Eq)]
 pub struct Desc {
     /// How many components there are, 1 to 4.

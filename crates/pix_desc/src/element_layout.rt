@@ -36,7 +36,7 @@ fn is_aligned(desc: &Desc, comp: &Comp) -> bool
     first_byte_index(desc, comp) % u16::from(size) == 0 && comp.step % size == 0
 }
 
-/// Whether all components do.
+/// Whether all components are aligned.
 fn has_aligned(desc: &Desc) -> bool
     requires { desc.now.count ≤ 4 }
     ensures { result ≡ list_all (is_aligned desc.now) (components desc.now) }
@@ -58,8 +58,8 @@ fn element_count(comps: &[Comp]) -> u16
     count
 }
 
-/// Whether a pixel is up to four numbers of equal size that hold one component each, all at the
-/// same bits.
+/// Whether a pixel is at most four aligned numbers of one size, each with at most one component,
+/// all at the same bits.
 pub fn is_elements(desc: &Desc) -> bool
     requires { desc.now.count ≤ 4 }
     ensures { result ≡ is_elements desc.now }

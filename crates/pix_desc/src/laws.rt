@@ -7,8 +7,7 @@ ghost use Rattle.pix_desc.specs.Layouts.{IsValid, IsLaidOut};
 ghost use Rattle.pix_desc.specs.Frame.{frame_of, IsFrameOf, HasOneFrame, AgreeWithin};
 
 /// A descriptor that passes the check has one to four components of 1 to 16 bits, each inside its
-/// pixel and in one
-/// of four planes, and no bit of a pixel belongs to two of them.
+/// pixel and in one of four planes, and no bit of a pixel belongs to two of them.
 pub fn passes_laid_out()
     ensures { (desc : Desc) → IsValid desc → IsLaidOut desc }
 {}
@@ -23,8 +22,7 @@ pub fn component_has_its_bits()
 {}
 
 /// A row that keeps the bits that one component does not read keeps the other components of its
-/// plane, and the
-/// components of other pixels.
+/// plane, and the components of other pixels.
 pub fn other_components_stay()
     ensures { (desc : Desc) (i j x y : ℕ) (old new : List ℕ) → IsValid desc → i < desc.count
         → j < desc.count

@@ -14,7 +14,7 @@ fn is_alone(comps: &[Comp], plane: u8) -> bool
     comps.iter().all(|comp| comp.plane == plane)
 }
 
-/// Whether they lie in one plane.
+/// Whether all components lie in one plane.
 fn has_one_plane(comps: &[Comp]) -> bool
     ensures { result ≡ nat_eq (length (one_a_plane comps.now)) 1 }
 {
@@ -39,7 +39,7 @@ pub fn word_shift(desc: &Desc, comp: &Comp) -> u16
     8 * bytes_below + u16::from(comp.shift)
 }
 
-/// Whether a bit of that number belongs to the component.
+/// Whether a bit of a pixel's number belongs to the component.
 fn has_word_bit(desc: &Desc, comp: &Comp, bit: u16) -> bool
     ensures { result ≡ has_word_bit desc.now bit comp.now }
 {
@@ -48,7 +48,7 @@ fn has_word_bit(desc: &Desc, comp: &Comp, bit: u16) -> bool
     shift <= bit && bit < shift + u32::from(comp.depth)
 }
 
-/// Whether it belongs to a component.
+/// Whether a bit of a pixel's number belongs to a component.
 fn is_taken(desc: &Desc, bit: u16) -> bool
     requires { desc.now.count ≤ 4 }
     ensures { result ≡ some_component desc.now (has_word_bit desc.now bit) }
@@ -58,7 +58,7 @@ fn is_taken(desc: &Desc, bit: u16) -> bool
         .any(|comp| has_word_bit(desc, comp, bit))
 }
 
-/// Whether it belongs to no component.
+/// Whether a bit of a pixel's number belongs to no component.
 fn is_spare(desc: &Desc, bit: u16) -> bool
     requires { desc.now.count ≤ 4 }
     ensures { result ≡ is_spare desc.now bit }
@@ -66,7 +66,7 @@ fn is_spare(desc: &Desc, bit: u16) -> bool
     !is_taken(desc, bit)
 }
 
-/// Whether a run of such bits begins at a bit.
+/// Whether a run of spare bits begins at a bit.
 fn begins_spare(desc: &Desc, bit: u16) -> bool
     requires { desc.now.count ≤ 4 }
     ensures { result ≡ begins_spare desc.now bit }
@@ -92,7 +92,7 @@ fn has_few_fields(desc: &Desc, step: u8) -> bool
     matches!(step, 1 | 2 | 4) && spare_runs(desc, step) <= usize::from(4 - desc.count)
 }
 
-/// Whether this holds of each component's step.
+/// Whether a pixel of each component's step has at most four fields.
 fn is_divided(desc: &Desc) -> bool
     requires { desc.now.count ≤ 4 }
     ensures { result ≡ list_all (λ c. has_few_fields desc.now c.step) (components desc.now) }

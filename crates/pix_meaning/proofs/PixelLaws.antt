@@ -34,7 +34,7 @@ abbrev SameCodes : Desc → ℕ → ℕ → ℕ → List ℕ → List ℕ → �
 SameCodes desc width rows height slice frame x y row =
     (i : ℕ) → i < component_count desc → source_component desc width rows slice i x y ≡ source_component desc width height frame i x row
 
--- so they have the same values
+-- two pixels with the same codes have the same values
 same_value : (side : Side) (width rows height : ℕ) (slice frame : List ℕ) (x y row c : ℕ) → IsValid side.desc
     → SameCodes side.desc width rows height slice frame x y row → c < 4
     → source_value side width rows slice x y c ≡ source_value side width height frame x row c

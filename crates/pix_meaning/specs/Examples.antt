@@ -20,8 +20,7 @@ luma_alone y = record {
   comps = y ∷ no_component ∷ no_component ∷ no_component ∷ [];
   be = false;
   rgb = false;
-  alpha =
-      false;
+  alpha = false;
   palette = false;
 }
 
@@ -29,21 +28,27 @@ luma_alone y = record {
 abbrev pub opaque : Bool → Comp → Comp → Comp → Desc
 opaque rgb a b c = record { count = 3; comps = a ∷ b ∷ c ∷ no_component ∷ []; be = false; rgb = rgb; alpha = false; palette = false }
 
+-- gray of 8 bits
 abbrev pub gray : Desc
 gray = luma_alone (comp 0 1 (pos 0) 0 8)
 
+-- gray of 10 bits in two bytes
 abbrev pub gray10le : Desc
 gray10le = luma_alone (comp 0 2 (pos 0) 0 10)
 
+-- gray of 16 bits
 abbrev pub gray16le : Desc
 gray16le = luma_alone (comp 0 2 (pos 0) 0 16)
 
+-- red, green and blue, a byte each
 abbrev pub rgb24 : Desc
 rgb24 = opaque true (comp 0 3 (pos 0) 0 8) (comp 0 3 (pos 1) 0 8) (comp 0 3 (pos 2) 0 8)
 
+-- red, green and blue of 5, 6 and 5 bits in two bytes, the high byte first
 abbrev pub rgb565be : Desc
 rgb565be = record (opaque true (comp 0 2 (negsuc 0) 3 5) (comp 0 2 (pos 0) 5 6) (comp 0 2 (pos 0) 0 5)) { be = true }
 
+-- red, green, blue and alpha, a byte each
 abbrev pub rgba : Desc
 rgba = record {
   count = 4;
@@ -54,15 +59,19 @@ rgba = record {
   palette = false;
 }
 
+-- planes of Y, U and V of 8 bits
 abbrev pub yuv444p : Desc
 yuv444p = opaque false (comp 0 1 (pos 0) 0 8) (comp 1 1 (pos 0) 0 8) (comp 2 1 (pos 0) 0 8)
 
+-- planes of Y, U and V of 10 bits in two bytes
 abbrev pub yuv444p10le : Desc
 yuv444p10le = opaque false (comp 0 2 (pos 0) 0 10) (comp 1 2 (pos 0) 0 10) (comp 2 2 (pos 0) 0 10)
 
+-- a plane of Y and a plane of U and V, of 10 bits above 6 spare bits
 abbrev pub p410le : Desc
 p410le = opaque false (comp 0 2 (pos 0) 6 10) (comp 1 4 (pos 0) 6 10) (comp 1 4 (pos 2) 6 10)
 
+-- an index of 8 bits into a palette
 abbrev pub pal8 : Desc
 pal8 = record gray { alpha = true; palette = true }
 
@@ -70,13 +79,15 @@ pal8 = record gray { alpha = true; palette = true }
 abbrev pub palette : List ℕ
 palette = replicate 4 0 ++ (0x10 ∷ 0x40 ∷ 0xFF ∷ 0x80 ∷ []) ++ replicate 1016 0
 
--- a side with the matrix bt601
+-- a side of full range with the matrix bt601
 abbrev pub full : Desc → Side
 full desc = record { desc = desc; matrix = bt601; range = Full }
 
+-- a side of limited range with the matrix bt601
 abbrev pub limited : Desc → Side
 limited desc = record { desc = desc; matrix = bt601; range = Limited }
 
+-- a pair of two sides with a dither
 abbrev pub with_dither : ℕ → Side → Side → Pair
 with_dither dither from to = record { from = from; to = to; dither = dither }
 
@@ -88,6 +99,7 @@ converted from to frame = target_frame (with_dither 0 from to) 1 1 frame
 abbrev pub halves : List ℕ
 halves = 0x00 ∷ 0x80 ∷ 0x00 ∷ 0x80 ∷ 0x00 ∷ 0x80 ∷ 0x00 ∷ 0x80 ∷ []
 
+-- Some conversions, byte by byte.
 pub record WorkedConversions : Type 0 where
   -- 32768/257 is above 127.5, and 32767/257 is below
   pub rounded_up : converted (full gray16le) (full gray) (0x00 ∷ 0x80 ∷ []) ≡ 0x80 ∷ []

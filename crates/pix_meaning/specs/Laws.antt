@@ -1,4 +1,4 @@
--- What the definitions keep: the laws that the functions of src/laws.rt prove.
+-- The laws of the definitions, which the functions of src/laws.rt prove.
 use Rattle.std.specs.Prelude.{◌≡◌, ℕ, ◌<◌, ◌^◌, ◌+◌, List, All, true, false}
 use Rattle.frac_math.specs.Fraction.{nat}
 use Rattle.pix_desc.specs.declared.desc.Desc.{Desc}

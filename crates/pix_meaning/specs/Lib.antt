@@ -3,3 +3,4 @@ pub mod Values
 pub mod Target
 pub mod Laws
 pub mod Examples
+pub mod Channels

@@ -12,8 +12,7 @@ use Rattle.pix_meaning.specs.declared.pair.Side.{Side}
 use Rattle.pix_meaning.specs.declared.pair.Pair.{Pair}
 
 -- A pair is valid where both descriptors pass the check, both matrices are within their bounds, and the dither is 0 to 4. A matrix is three
--- plain
--- numbers in the code, so its bounds are a part of a valid pair.
+-- plain numbers in the code, so its bounds are a part of a valid pair.
 pub record IsValidPair (pair : Pair) : Type 0 where
   pub from : IsValid pair.from.desc
   pub to : IsValid pair.to.desc
@@ -22,8 +21,7 @@ pub record IsValidPair (pair : Pair) : Type 0 where
   pub dither : pair.dither ≤ 4
 
 -- A format of red, green and blue. A palette format is one too, by its entries: its own component is an index, and its flag for RGB is not
--- set
--- (FFmpeg's libavutil/pixdesc.h, AV_PIX_FMT_FLAG_RGB and AV_PIX_FMT_FLAG_PAL).
+-- set (FFmpeg's libavutil/pixdesc.h, AV_PIX_FMT_FLAG_RGB and AV_PIX_FMT_FLAG_PAL).
 abbrev pub is_rgb : Desc → Bool
 is_rgb desc = desc.rgb || desc.palette
 
@@ -31,7 +29,7 @@ is_rgb desc = desc.rgb || desc.palette
 abbrev pub component_count : Desc → ℕ
 component_count desc = if desc.palette then 4 else desc.count
 
--- the bits of component j; each of an entry has 8
+-- the bits of component j, where each part of a palette's entry has 8
 abbrev pub depth_of : Desc → ℕ → ℕ
 depth_of desc j = if desc.palette then 8 else (component_of desc j).depth
 

@@ -14,8 +14,7 @@ unfoldable pub clamped : ℕ → ℤ → ℕ
 clamped depth z = count_of (int_min (int_max z (pos 0)) (pos (2 ^ depth - 1)))
 
 -- The code of the target's component j at x and y. A slice of rows is converted as a frame of its own, and `first` is the row of the whole
--- frame at
--- which it begins: the dither goes by the place in the whole frame.
+-- frame at which it begins: the dither goes by the pixel's row and column in the whole frame.
 unfoldable pub result_of : Pair → ℕ → ℕ → ℕ → List ℕ → ℕ → ℕ → ℕ → ℕ
 result_of pair width height first frame j x y =
     clamped (depth_of pair.to.desc j) (floor (wanted pair width height frame j x y +ℚ dither_at pair.dither x (first + y)))
@@ -25,14 +24,14 @@ result_of pair width height first frame j x y =
 abbrev pub IsTargetRows : Pair → ℕ → ℕ → ℕ → List ℕ → List ℕ → Type 0
 IsTargetRows pair width height first frame target = IsFrameOf pair.to.desc width height (result_of pair width height first frame) target
 
--- this is the whole target frame
+-- these bytes are the whole target frame
 abbrev pub IsTargetFrame : Pair → ℕ → ℕ → List ℕ → List ℕ → Type 0
 IsTargetFrame pair width height frame target = IsTargetRows pair width height 0 frame target
 
--- the rows that are meant, made of the results
+-- the target's rows, made of the results
 unfoldable pub target_rows : Pair → ℕ → ℕ → ℕ → List ℕ → List ℕ
 target_rows pair width height first frame = frame_of pair.to.desc width height (result_of pair width height first frame)
 
--- the whole frame that is meant
+-- the target frame, made of the results
 abbrev pub target_frame : Pair → ℕ → ℕ → List ℕ → List ℕ
 target_frame pair width height frame = target_rows pair width height 0 frame

@@ -11,8 +11,7 @@ use Rattle.pix_meaning.specs.declared.pair.Pair.{Pair}
 use Rattle.pix_meaning.specs.Pairs.{is_rgb, has_channel, component_at, channel_of, levels_of}
 
 -- An entry of a palette is a little-endian number of four bytes with alpha highest, then red, green and blue. These are the bytes of its
--- components
--- red, green, blue and alpha.
+-- components red, green, blue and alpha.
 abbrev pub entry_byte : ℕ → ℕ
 entry_byte zero = 2
 entry_byte (suc zero) = 1

@@ -43,8 +43,7 @@ pub fn slices_agree()
 {}
 
 /// A source frame has exactly one target frame in a format without a palette, and so has each slice
-/// of its rows. The
-/// bytes that a frame of another length lacks count as 0.
+/// of its rows. The bytes that a frame of another length lacks count as 0.
 pub fn has_one_target_frame()
     ensures { (pair : Pair) (width height first : ℕ) (frame : List ℕ) → IsValidPair pair
         → pair.to.desc.palette ≡ false

@@ -16,6 +16,7 @@ pub fn pair_valid(pair: &Pair) -> bool
     is_valid_side(&pair.from) && is_valid_side(&pair.to) && pair.dither <= 4
 }
 
+// Whether a side's descriptor passes the check, and its matrix is within the bounds of a matrix.
 fn is_valid_side(side: &Side) -> bool
     ensures { IsTrue result ↔ (IsValid side.now.desc × IsMatrix side.now.matrix) }
 {

@@ -16,7 +16,8 @@ use Rattle.op_list.specs.Pixel.{element_of, HasElements}
 use Rattle.op_list.specs.Store.{IsOtherPixel, HaveSameElements}
 use Rattle.op_list.specs.Run.{checked_run}
 use Rattle.op_list.proofs.Stored.{elements_make_frame}
-use Rattle.op_build.specs.Shape.{element_type, element_counts}
+use Rattle.pix_desc.specs.Shape.{element_counts}
+use Rattle.op_build.specs.ElementType.{element_type}
 use Rattle.op_build.specs.Recipe.{recipe}
 use Rattle.op_build.proofs.Means.{means_target}
 use Rattle.op_build.proofs.Frames.{fills_frames}

@@ -5,7 +5,7 @@ use Rattle.std.specs.Str.{bytes_eq}
 use Rattle.std.proofs.lemmas.Option.{none-some, same_Some}
 use Rattle.colour_matrix.specs.declared.matrix.Matrix.{Matrix}
 use Rattle.colour_matrix.specs.Matrix.{IsMatrix, of_parts, bt601, bt709, bt2020, smpte240m, fcc, matrix_named}
-use Rattle.op_build.specs.BoundClasses.{named_matrices, IsOneOf}
+use Rattle.op_build.specs.SideClasses.{named_matrices, IsOneOf}
 use Rattle.row_plan.specs.Evaluated.{IsNamed}
 
 -- what is true of the first answer, and of one of those behind it

@@ -1,7 +1,8 @@
 -- What holds of a plan, and of the elements that its list writes.
 use Rattle.std.proofs.Common.{◌≡◌, List, ℕ}
 use Rattle.op_list.specs.declared.types.PixType.{PixType}
-use Rattle.op_build.specs.Shape.{element_type, element_counts}
+use Rattle.pix_desc.specs.Shape.{element_counts}
+use Rattle.op_build.specs.ElementType.{element_type}
 use Rattle.row_plan.specs.declared.plans.Plan.{Plan}
 use Rattle.row_plan.proofs.ConvertedRows.{IsPlanned}
 

@@ -12,8 +12,8 @@ use Rattle.pix_meaning.specs.Pairs.{is_rgb}
 use Rattle.desc_table.specs.Format.{formats, format_count, desc_of}
 use Rattle.desc_table.proofs.Rows.{agree_at_row}
 use Rattle.op_list.specs.Values.{four}
-use Rattle.op_build.specs.Recipe.{channel_depth}
-use Rattle.op_build.specs.BoundClasses.{SideClass, side_class_of, side_class, for_each, named_matrices, rgb_depths, yuv_depths, rgb_classes, yuv_classes, side_classes, IsOneOf}
+use Rattle.pix_meaning.specs.Channels.{channel_depth}
+use Rattle.op_build.specs.SideClasses.{SideClass, side_class_of, side_class, for_each, named_matrices, rgb_depths, yuv_depths, rgb_classes, yuv_classes, side_classes, IsOneOf}
 use Rattle.row_plan.specs.Evaluated.{IsNamed, side_at}
 use Rattle.row_plan.proofs.Members.{in_first, in_second, in_each, found_one}
 use Rattle.row_plan.proofs.NamedMatrices.{listed_matrix}

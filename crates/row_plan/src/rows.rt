@@ -3,7 +3,8 @@ ghost use Rattle.std.specs.Prelude.{◌≡◌, ◌+◌, ◌*◌, ◌<◌, ◌^�
 ghost use Rattle.pix_desc.specs.Frame.{frame_length};
 ghost use Rattle.pix_meaning.specs.Target.{target_rows};
 ghost use Rattle.op_list.specs.Typing.{is_write};
-ghost use Rattle.op_build.specs.Shape.{element_type, element_counts};
+ghost use Rattle.pix_desc.specs.Shape.{element_counts};
+ghost use Rattle.op_build.specs.ElementType.{element_type};
 ghost use Rattle.row_plan.specs.Rows.{IsConverted};
 
 use crate::plans::Plan;

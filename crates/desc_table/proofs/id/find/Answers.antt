@@ -1,12 +1,20 @@
-use Rattle.std.proofs.Common.{sym, ◌∙◌}
-use Rattle.desc_table.proofs.Lookup.{lookup-Ok}
+use Rattle.std.proofs.Common.{sym, ap, ◌∙◌}
+use Rattle.std.specs.Prelude.{Err}
+use Rattle.desc_table.specs.Refused.{fault_named, row_or_fault, lookup}
+use Rattle.desc_table.proofs.Lookup.{row_named-Some}
 use Rattle.desc_table.proofs.id.find.Goals as goal
 
-pub invariant_of-result : goal.invariant_of-result
-invariant_of-result c = (lookup-Ok c.args.name.now c.in_ok-row.row (sym c.row_of.ensures ∙ c.in_ok-row.was)).0
+pub returns-in-Some-clause-value : goal.returns-in-Some-clause-value
+unfolding lookup
+returns-in-Some-clause-value c =
+    ap (λ found. row_or_fault found (fault_named c.args.name.now)) (sym c.in-Some.is ∙ c.row_named.ensures.value)
 
-pub returns-clause-named : goal.returns-clause-named
-returns-clause-named c = (lookup-Ok c.args.name.now c.in_ok-row.row (sym c.row_of.ensures ∙ c.in_ok-row.was)).1
+pub returns-in-Some-clause-named : goal.returns-in-Some-clause-named
+returns-in-Some-clause-named c =
+    (row_named-Some c.args.name.now c.in-Some.row (sym c.row_named.ensures.value ∙ c.in-Some.is)).1
 
-pub returns-clause-below : goal.returns-clause-below
-returns-clause-below c = (lookup-Ok c.args.name.now c.in_ok-row.row (sym c.row_of.ensures ∙ c.in_ok-row.was)).0
+pub returns-in-None-clause-value : goal.returns-in-None-clause-value
+unfolding lookup
+returns-in-None-clause-value c =
+    ap Err c.fault_named.ensures
+    ∙ ap (λ found. row_or_fault found (fault_named c.args.name.now)) (sym c.in-None.is ∙ c.row_named.ensures.value)

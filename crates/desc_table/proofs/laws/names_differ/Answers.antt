@@ -7,7 +7,8 @@ pub returns-clause-rows : goal.returns-clause-rows
 returns-clause-rows c = lookup-name_of
 
 pub returns-clause-refusals : goal.returns-clause-refusals
-returns-clause-refusals c k d below = agree_at (λ (refusal : Refusal). lookup refusal.name) (λ refusal. Err refusal.fault) refused k d refusals_computed below
+returns-clause-refusals c k d below =
+    agree_at (λ (refusal : Refusal). lookup refusal.name) (λ refusal. Err refusal.fault) refused k d refusals_computed below
 
 pub returns-clause-different : goal.returns-clause-different
 returns-clause-different c i j i_below j_below same = cc (lookup-name_of i i_below, lookup-name_of j j_below)

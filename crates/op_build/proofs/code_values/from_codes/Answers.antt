@@ -1,5 +1,6 @@
 use Rattle.std.proofs.Common.{◌∙◌, sym, refl, arith}
-use Rattle.op_build.specs.Recipe.{channel_levels, from_codes}
+use Rattle.pix_meaning.specs.Channels.{channel_levels}
+use Rattle.op_build.specs.Recipe.{from_codes}
 use Rattle.op_build.proofs.LevelSizes.{small_levels}
 use Rattle.op_build.proofs.code_values.from_codes.Goals as goal
 

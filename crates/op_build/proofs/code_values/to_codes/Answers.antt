@@ -1,11 +1,13 @@
 use Rattle.std.proofs.Common.{◌≡◌, ◌∙◌, false, sym, refl}
 use Rattle.pix_meaning.specs.declared.pair.Side.{Side}
 use Rattle.op_list.specs.declared.op.Op.TheVariants.{Linear}
-use Rattle.op_build.specs.Recipe.{channel_levels, diagonal, to_codes}
+use Rattle.pix_meaning.specs.Channels.{channel_levels}
+use Rattle.op_build.specs.Recipe.{diagonal, to_codes}
 use Rattle.op_build.specs.Recipe.{are_plain}
 use Rattle.op_build.proofs.code_values.to_codes.Goals as goal
 
-linear_to : (side : Side) → are_plain (channel_levels side) ≡ false → Linear (diagonal (λ c. (channel_levels side c).scale) (λ c. (channel_levels side c).base)) ≡ to_codes side
+linear_to : (side : Side) → are_plain (channel_levels side) ≡ false
+    → Linear (diagonal (λ c. (channel_levels side c).scale) (λ c. (channel_levels side c).base)) ≡ to_codes side
 unfolding to_codes
 linear_to side h = rw h refl
 

@@ -1,5 +1,5 @@
 use Rattle.std.proofs.Common.{arith}
-use Rattle.op_build.proofs.Depths.{channel_depth_small}
+use Rattle.pix_meaning.proofs.ChannelDepths.{channel_depth_small}
 use Rattle.op_build.proofs.limits.greatest.Goals as goal
 
 pub power-requires : goal.power-requires

@@ -3,7 +3,8 @@ use Rattle.frac_math.specs.Fraction.{nat}
 use Rattle.colour_matrix.specs.Colour.{to_rgb_rows, from_rgb_rows}
 use Rattle.pix_meaning.specs.Pairs.{is_rgb}
 use Rattle.op_list.specs.declared.op.Op.TheVariants.{Dither, Linear, Min, Max}
-use Rattle.op_build.specs.Recipe.{convert, to_codes, over_three, limits, channel_depth}
+use Rattle.pix_meaning.specs.Channels.{channel_depth}
+use Rattle.op_build.specs.Recipe.{convert, to_codes, over_three, limits}
 use Rattle.op_build.proofs.StepLists.{operations-if-if}
 use Rattle.op_build.proofs.steps.convert.Goals as goal
 
@@ -15,7 +16,8 @@ returns c =
     let low = Max (limits to.desc (λ k. nat 0)) in
     let high = Min (limits to.desc (λ k. nat (2 ^ channel_depth to.desc k - 1))) in
     let rest = Some (to_codes to) ∷ Some (Dither c.args.pair.now.dither) ∷ Some low ∷ Some high ∷ [] in
-    let both = operations-if-if (not (is_rgb from.desc)) (not (is_rgb to.desc)) (Linear (over_three (to_rgb_rows from.matrix))) (Linear (over_three (from_rgb_rows to.matrix))) rest in
+    let both = operations-if-if (not (is_rgb from.desc)) (not (is_rgb to.desc)) (Linear (over_three (to_rgb_rows from.matrix)))
+    (Linear (over_three (from_rgb_rows to.matrix))) rest in
     rw (
       c.from_codes.ensures,
       c.step_if.ensures,

@@ -1,9 +1,0 @@
-use Rattle.std.proofs.Common.{arith}
-use Rattle.op_build.proofs.Depths.{channel_depth_small, channel_depth_some}
-use Rattle.op_build.proofs.colour.channel_levels.Goals as goal
-
-pub levels-requires-clause-some_depth : goal.levels-requires-clause-some_depth
-levels-requires-clause-some_depth c = omega (arith, c.channel_depth.ensures, channel_depth_some c.args.side.now.desc c.args.c c.requires.valid c.requires.channel)
-
-pub levels-requires-clause-greatest_depth : goal.levels-requires-clause-greatest_depth
-levels-requires-clause-greatest_depth c = omega (arith, c.channel_depth.ensures, channel_depth_small c.args.side.now.desc c.args.c c.requires.valid c.requires.channel)

@@ -1,6 +1,0 @@
-use Rattle.std.proofs.Common.{arith}
-use Rattle.op_build.proofs.Shapes.{has_size}
-use Rattle.op_build.proofs.elements.element_index.Goals as goal
-
-pub nonzero_div-place : goal.nonzero_div-place
-nonzero_div-place c = omega (arith, c.from.ensures, c.element_bytes.ensures, has_size c.args.desc.now c.requires)

@@ -1,5 +1,0 @@
-use Rattle.std.proofs.Common.{◌-◌}
-use Rattle.op_build.proofs.word.+end_below.Given as goal
-
-abbrev pub decreases-end_below : goal.decreases-end_below
-decreases-end_below l = l.desc.now.count - l.first

@@ -1,4 +1,0 @@
-use Rattle.op_build.proofs.word.+field_from.Given as goal
-
-abbrev pub decreases-field_from : goal.decreases-field_from
-decreases-field_from l = l.i
