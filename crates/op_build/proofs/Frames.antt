@@ -136,16 +136,16 @@ reads_frames pair = λ valid width rows.
 -- ---- the last operation
 
 -- all operations of the recipe but the last
-abbrev before_write : Pair → List Op
+abbrev pub before_write : Pair → List Op
 before_write pair =
     let desc = pair.to.desc in
     decode pair.from.desc ++ convert pair ++ (Convert (element_type desc) false ∷ Swizzle (slot_channels desc) ∷ Clear (spare_zeros desc)
     ∷ (if is_elements desc then LeftShift (component_of desc 0).shift else Pack (field_widths desc)) ∷ only_if (is_swapped desc) SwapBytes)
 
-abbrev last_write : Pair → Op
+abbrev pub last_write : Pair → Op
 last_write pair = Write (element_type pair.to.desc) (element_counts pair.to.desc)
 
-recipe_ends : (pair : Pair) → before_write pair ++ last_write pair ∷ [] ≡ recipe pair
+pub recipe_ends : (pair : Pair) → before_write pair ++ last_write pair ∷ [] ≡ recipe pair
 unfolding recipe encode
 recipe_ends pair =
     let desc = pair.to.desc in

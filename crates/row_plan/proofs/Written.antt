@@ -1,17 +1,15 @@
 -- The last operation of a recipe.
-use Rattle.std.proofs.Common.{◌≡◌, ℕ, ◌-◌, suc, false, List, [], ◌∷◌, ◌++◌, length, if◌then◌else◌, refl, sym, ◌∙◌, ap, arith}
+use Rattle.std.proofs.Common.{◌≡◌, ℕ, ◌-◌, suc, List, [], ◌∷◌, ◌++◌, length, refl, sym, ◌∙◌, ap, arith}
 use Rattle.std.specs.Prelude.{Some, None, slice_get}
 use Rattle.std.proofs.lemmas.Option.{none-some, same_Some}
-use Rattle.std.proofs.lemmas.List.{append_assoc}
-use Rattle.pix_desc.specs.Component.{component_of}
-use Rattle.pix_desc.specs.Layouts.{is_elements}
+use Rattle.pix_desc.specs.Shape.{element_counts}
 use Rattle.pix_meaning.specs.declared.pair.Pair.{Pair}
 use Rattle.op_list.specs.declared.types.PixType.{PixType}
 use Rattle.op_list.specs.declared.op.Op.{Op}
-use Rattle.op_list.specs.declared.op.Op.TheVariants.{Write, SwapBytes, Pack, Clear, LeftShift, Swizzle, Convert}
-use Rattle.pix_desc.specs.Shape.{element_counts, field_widths}
-use Rattle.op_build.specs.ElementType.{element_type, is_swapped}
-use Rattle.op_build.specs.Recipe.{decode, convert, encode, recipe, only_if, slot_channels, spare_zeros}
+use Rattle.op_list.specs.declared.op.Op.TheVariants.{Write}
+use Rattle.op_build.specs.ElementType.{element_type}
+use Rattle.op_build.specs.Recipe.{recipe}
+use Rattle.op_build.proofs.Frames.{before_write, last_write, recipe_ends}
 
 last_of : (ops : List Op) (op : Op) → slice_get (ops ++ op ∷ []) (length (ops ++ op ∷ []) - 1) ≡ Some op
 last_of [] op = refl
@@ -21,17 +19,9 @@ last_of (first ∷ next ∷ ops) op =
     rw place (last_of (next ∷ ops) op)
 
 -- it writes the target's elements
-pub recipe_writes : (pair : Pair)
+recipe_writes : (pair : Pair)
     → slice_get (recipe pair) (length (recipe pair) - 1) ≡ Some (Write (element_type pair.to.desc) (element_counts pair.to.desc))
-unfolding recipe encode
-recipe_writes pair =
-    let desc = pair.to.desc in
-    let write = Write (element_type desc) (element_counts desc) in
-    let front = Convert (element_type desc) false ∷ Swizzle (slot_channels desc) ∷ Clear (spare_zeros desc)
-    ∷ (if is_elements desc then LeftShift (component_of desc 0).shift else Pack (field_widths desc)) ∷ only_if
-    (is_swapped desc) SwapBytes in
-    ap (λ ops. slice_get ops (length ops - 1)) (sym (append_assoc (decode pair.from.desc ++ convert pair) front (write ∷ [])))
-    ∙ last_of (decode pair.from.desc ++ convert pair ++ front) write
+recipe_writes pair = ap (λ ops. slice_get ops (length ops - 1)) (sym (recipe_ends pair)) ∙ last_of (before_write pair) (last_write pair)
 
 -- the last of the list of a plan
 pub is_last : (ops : List Op) (pair : Pair) (op : Op) → ops ≡ recipe pair → Some op ≡ slice_get ops (length ops - 1)

@@ -67,8 +67,8 @@ pub fn worked_slices()
     ensures { WorkedSlices }
 {}
 
-/// A `Plan` is `Send` and `Sync`: workers share one. A missing proof of it would else show only where
-/// the first threads are started.
+/// A `Plan` is `Send` and `Sync`: workers share one. A missing proof of it would else show only
+/// where the first threads are started.
 pub fn crosses_threads() {
     crosses::<Plan>()
 }

@@ -125,8 +125,8 @@ impl Plan {
     }
 
     /// Converts the rows of a slice of `width` pixels by `rows`, whose first row is the row `first`
-    /// of the whole frame, by which the dither goes. Input and output are raw frames of that width and
-    /// as many rows, the input with the whole palette where it has one. It takes no memory.
+    /// of the whole frame, by which the dither goes. Input and output are raw frames of that width
+    /// and as many rows, the input with the whole palette where it has one. It takes no memory.
     pub fn convert_rows(&self, first: u32, width: u32, rows: u32, input: &[u8], output: &mut [u8])
         requires last { first + rows < 2 ^ 32 }
         requires input { length input.now ≡ frame_length self.now.pair.from.desc width rows }
