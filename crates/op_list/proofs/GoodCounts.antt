@@ -19,4 +19,5 @@ in_front (suc a) (suc b) (suc c) (suc d) p q r = refl
 
 pub good_counts : (most : ℕ) (ns : List ℕ) → are_in_front ns ≡ true → 1 ≤ sum ns → sum ns ≤ most → are_counts most ns ≡ true
 good_counts most ns front some few =
-    and_from (are_in_front ns && nat_le 1 (sum ns)) (nat_le (sum ns) most) (and_from (are_in_front ns) (nat_le 1 (sum ns)) front (le-leb 1 (sum ns) some)) (le-leb (sum ns) most few)
+    and_from (are_in_front ns && nat_le 1 (sum ns)) (nat_le (sum ns) most)
+    (and_from (are_in_front ns) (nat_le 1 (sum ns)) front (le-leb 1 (sum ns) some)) (le-leb (sum ns) most few)
