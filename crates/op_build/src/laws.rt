@@ -16,10 +16,8 @@ ghost use Rattle.op_build.specs.Recipe.{recipe};
 /// At every pixel of a frame of bytes, the first part of the recipe gives the codes of the channels
 /// that are read there.
 pub fn decoding_gives_codes()
-    ensures {
-        (desc : Desc) (frame : List ℕ) (position : PixelPosition)
-        → GivesCodes desc frame position
-    }
+    ensures { (desc : Desc) (frame : List ℕ) (position : PixelPosition)
+        → GivesCodes desc frame position }
 {}
 
 /// It leaves values of a whole type.

@@ -36,10 +36,8 @@ fn missing_code(desc: &Desc, c: u8) -> u32
 
 fn missing_entry(desc: &Desc, c: u8) -> Option<Frac>
     requires { IsValid desc.now }
-    ensures {
-        result
-        ≡ (if has_channel desc.now c then None else Some (nat (missing_code desc.now c)))
-    }
+    ensures { result
+        ≡ (if has_channel desc.now c then None else Some (nat (missing_code desc.now c))) }
 {
     if has_channel(desc, c) {
         None

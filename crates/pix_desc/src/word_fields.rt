@@ -24,10 +24,8 @@ fn end_of(desc: &Desc, j: u8) -> u32
 
 // The component that ends at a bit.
 fn ending_at(desc: &Desc, top: u32) -> Option<u8>
-    ensures {
-        result
-        ≡ find (λ j. nat_eq (end_of desc.now j) top) (range_with_len 0 desc.now.count)
-    }
+    ensures { result
+        ≡ find (λ j. nat_eq (end_of desc.now j) top) (range_with_len 0 desc.now.count) }
 {
     (0..desc.count).find(|j| end_of(desc, *j) == top)
 }
