@@ -1,75 +1,31 @@
 -- A frame behind its line, as it is read.
-use Rattle.std.proofs.Common.{◌≡◌, true, false, Bool, ℕ, zero, suc, ◌+◌, ◌-◌, ◌<◌, ◌≤◌, List, [], ◌∷◌, ◌++◌, length, refl, sym, ap, ◌∙◌, arith, subst, take, drop, length-append, length-drop, length-take-le, take_at, drop_at, Result, Ok, Err, OnErr, if◌then◌else◌, IfSome, append-nil, nat_le, nat_eq, nat_lt}
+use Rattle.std.proofs.Common.{◌≡◌, true, false, Bool, ℕ, zero, suc, ◌+◌, ◌-◌, ◌<◌, ◌≤◌, List, [], ◌∷◌, ◌++◌, length, refl, sym, ap, ◌∙◌, arith, subst, take, drop, length-append, length-drop, length-take-le, take_at, drop_at, Result, Ok, Err, IfOk, OnErr, if◌then◌else◌, IfSome, append-nil, nat_le, nat_eq, nat_lt}
 use Rattle.std.proofs.lemmas.Bool.Decides.{nat_tests}
 use Rattle.std.specs.declared.option.Option.{Option}
 use Rattle.std.specs.declared.option.Option.TheVariants.{None, Some}
-use Rattle.std.specs.List.{list_any, position_or_len}
-use Rattle.std.proofs.lemmas.List.{length-take}
+use Rattle.std.specs.List.{list_any}
 use Rattle.sws_words.specs.declared.task.Form.{Form}
 use Rattle.sws_words.specs.declared.task.Form.TheVariants.{Raw, Y4m}
 use Rattle.y4m_io.specs.declared.fault.StreamFault.{StreamFault}
-use Rattle.y4m_io.specs.declared.fault.StreamFault.TheVariants.{LineTooLong, Truncated, NoFrameLine}
-use Rattle.y4m_io.specs.Lines.{is_newline, line_of, line_cut}
-use Rattle.y4m_io.specs.FrameLine.{frame_line_cut, frame_line_in, has_frame_word}
+use Rattle.y4m_io.specs.declared.fault.StreamFault.TheVariants.{Truncated}
+use Rattle.y4m_io.specs.Lines.{is_newline}
+use Rattle.y4m_io.specs.FrameLine.{frame_line_cut}
+use Rattle.y4m_io.specs.declared.fault.HeaderEnd.{HeaderEnd}
+use Rattle.y4m_io.specs.declared.fault.HeaderEnd.TheVariants as header
+use Rattle.y4m_io.specs.declared.header.Header.{Header}
+use Rattle.y4m_io.specs.HeaderLine.{HeaderLine, header_cut}
+use Rattle.sws_run.specs.declared.request.Input.TheVariants as input
 use Rattle.std.specs.Io.KnownBytes.{Consumes}
 use Rattle.pix_io.specs.Shown.{Shown}
 use Rattle.y4m_io.specs.declared.fault.LineEnd.{LineEnd}
 use Rattle.y4m_io.specs.declared.fault.LineEnd.TheVariants as line
-use Rattle.y4m_io.specs.Reading.{line_fault, line_reads, TakesOpen, TakesFrameLine}
-use Rattle.y4m_io.proofs.LineFronts.{line_of-append}
+use Rattle.y4m_io.specs.Reading.{line_fault, line_reads, header_reads, TakesOpen, TakesFrameLine}
+use Rattle.y4m_io.specs.Reading as reading
+use Rattle.y4m_io.proofs.LineShapes.{frame_line_cut-size, frame_line_cut-unfinished, header_cut-size, header_cut-unfinished}
 use Rattle.sws_run.specs.Cut.{Frame, Piece, Nothing, Whole, Faulty, front_cut, piece_behind, piece_cut}
-use Rattle.sws_run.specs.Frames.{IfTold, IsBehind, IsShort, TakesFrame, TakesPiece}
+use Rattle.sws_run.specs.Frames.{IfTold, IsBehind, IsShort, IsShortOf, TakesFrame, TakesPiece, TakesHeader, TakesHeaderPart}
 use Rattle.sws_run.proofs.Places.{behind_then}
 use Rattle.sws_run.proofs.Told.{some_map}
-
--- ---- lines
-
-length-line_of : (bytes : List ℕ) → length (line_of bytes) ≤ length bytes
-length-line_of bytes = omega (arith, length-take (position_or_len is_newline bytes) bytes)
-
--- a line that is cut off is followed by its newline
-cut_at : (front bytes line : List ℕ) (long whole : Bool) → length front ≤ length bytes → nat_eq (length front) (length bytes) ≡ whole
-    → (if long then Err LineTooLong else (if whole then Err Truncated else Ok front)) ≡ Ok line → (line ≡ front) × (length line + 1 ≤ length bytes)
-cut_at front bytes line true whole below same is = absurd (cc)
-cut_at front bytes line false true below same is = absurd (cc)
-cut_at front bytes line false false below same is =
-    let e : line ≡ front = cc in
-    let more : length line + 1 ≤ length bytes = grind (arith, nat_tests, same, ap length e, below) in (e, more)
-
-pub line_cut-size : (bytes line : List ℕ) → line_cut bytes ≡ Ok line → (line ≡ line_of bytes) × (length line + 1 ≤ length bytes)
-unfolding line_cut
-line_cut-size bytes line is =
-    cut_at (line_of bytes) bytes line (nat_lt 1024 (length (line_of bytes))) (nat_eq (length (line_of bytes)) (length bytes)) (length-line_of bytes) refl is
-
--- bytes without a newline are fewer than the line has, with its newline, that they begin
-pub line_cut-open : (front rest line : List ℕ) → list_any is_newline front ≡ false → line_cut (front ++ rest) ≡ Ok line → length front < length line + 1
-line_cut-open front rest line none is =
-    let e : line ≡ front ++ line_of rest = (line_cut-size (front ++ rest) line is).0 ∙ line_of-append front rest none in
-    omega (arith, ap length e, length-append front (line_of rest))
-
--- the line in front of a frame is a line
-line_found : (bytes : List ℕ) (size : ℕ) (front : Bool) (cut : Result (List ℕ) StreamFault) → line_cut bytes ≡ cut → (if front then frame_line_in cut else Err NoFrameLine) ≡ Ok (Some size)
-    → (line : List ℕ) × (line_cut bytes ≡ Ok line) × (length line + 1 ≡ size)
-line_found bytes size false cut same is = absurd (cc)
-line_found bytes size true (Err fault) same is = absurd (cc)
-line_found bytes size true (Ok line) same is = (line, same, cc)
-
-frame_line_cut-line : (bytes : List ℕ) (size : ℕ) → frame_line_cut bytes ≡ Ok (Some size) → (line : List ℕ) × (line_cut bytes ≡ Ok line) × (length line + 1 ≡ size)
-unfolding frame_line_cut
-frame_line_cut-line [] size is = absurd (cc)
-frame_line_cut-line (first ∷ rest) size is = line_found (first ∷ rest) size (has_frame_word (first ∷ rest)) (line_cut (first ∷ rest)) refl is
-
-pub frame_line_cut-size : (bytes : List ℕ) (size : ℕ) → frame_line_cut bytes ≡ Ok (Some size) → size ≤ length bytes
-frame_line_cut-size bytes size is =
-    let line = frame_line_cut-line bytes size is in
-    let below = (line_cut-size bytes line.0 line.1).1 in
-    omega (arith, below, line.2)
-
-pub frame_line_cut-open : (front rest : List ℕ) (size : ℕ) → list_any is_newline front ≡ false → frame_line_cut (front ++ rest) ≡ Ok (Some size) → length front < size
-frame_line_cut-open front rest size none is =
-    let line = frame_line_cut-line (front ++ rest) size is in
-    let below = line_cut-open front rest line.0 none line.1 in
-    omega (arith, below, line.2)
 
 -- ---- pieces
 
@@ -160,7 +116,7 @@ raw_part part bytes rest n size same long short = raw_part_at part bytes rest n 
 -- a frame line was taken
 pub line_front : (bytes mid : List ℕ) (size : ℕ) → frame_line_cut bytes ≡ Ok (Some size) → bytes ≡ take size bytes ++ mid → IsBehind size bytes mid
 line_front bytes mid size is same =
-    let fits = frame_line_cut-size bytes size is in
+    let fits = (frame_line_cut-size bytes size is).1 in
     record { within = fits; left = sym (ap (drop size) same ∙ drop_at (take size bytes) mid size (length-take-le size bytes fits)) }
 
 pub line_fault_piece : (size : ℕ) (bytes : List ℕ) (fault : StreamFault) → frame_line_cut bytes ≡ Err fault → piece_cut Y4m size bytes ≡ Faulty fault
@@ -171,7 +127,7 @@ open_piece : (front rest : List ℕ) (size : ℕ) (cut : Result (Option ℕ) Str
 open_piece front rest size (Err fault) none is = tt
 open_piece front rest size (Ok None) none is = tt
 open_piece front rest size (Ok (Some line)) none is =
-    short_if (length front) line size (front ++ rest) (let below = frame_line_cut-open front rest line none is in omega (arith, below)) (nat_le (line + size) (length (front ++ rest)))
+    short_if (length front) line size (front ++ rest) (let below = frame_line_cut-unfinished front rest line none is in omega (arith, below)) (nat_le (line + size) (length (front ++ rest)))
 
 -- a part of a frame line was taken
 pub open_part : (front rest : List ℕ) (size : ℕ) → list_any is_newline front ≡ false → TakesPiece Y4m size (front ++ rest) rest
@@ -212,3 +168,39 @@ pub open_told : (T U : Type 0) (a b : Shown) (size : ℕ) (end : LineEnd) → On
     → OnErr (line_reads {T = U} (Err end)) (IfTold a.bytes b.bytes (TakesPiece Y4m size))
 open_told T U a b size (line.Stream fault) p = tt
 open_told T U a b size line.ReadFault p = open_told_at a.bytes b.bytes p.0 size p.1 p.2
+
+-- ---- the header of a stream
+
+header_told_at : (a b : Option (List ℕ)) (h : Header) → IfSome a (λ bytes. (size : ℕ) × (header_cut bytes ≡ Ok (record { header = h; size = size })) × Consumes a b (take size bytes))
+    → IfTold a b (TakesHeader input.Y4m h)
+header_told_at None b h p = tt
+header_told_at (Some x) None h p = absurd p.2
+header_told_at (Some x) (Some y) h p =
+    let fits : p.0 ≤ length x = (header_cut-size x (record { header = h; size = p.0 }) p.1).1 in
+    (p.0, p.1, record { within = fits; left = sym (ap (drop p.0) p.2 ∙ drop_at (take p.0 x) y p.0 (length-take-le p.0 x fits)) })
+
+-- the header's line was taken
+pub header_told : (a b : Shown) (result : Result Header HeaderEnd) → IfOk result (reading.TakesHeader a b) → IfOk result (λ h. IfTold a.bytes b.bytes (TakesHeader input.Y4m h))
+header_told a b (Ok h) p = header_told_at a.bytes b.bytes h p
+header_told a b (Err end) p = tt
+
+open_header_at : (front rest : List ℕ) (cut : Result HeaderLine StreamFault) → list_any is_newline front ≡ false → header_cut (front ++ rest) ≡ cut → IsShortOf (length front) cut
+open_header_at front rest (Err fault) none is = tt
+open_header_at front rest (Ok line) none is = header_cut-unfinished front rest line none is
+
+open_header : (a b : Option (List ℕ)) (front : List ℕ) → list_any is_newline front ≡ false → Consumes a b front → IfTold a b (TakesHeaderPart input.Y4m)
+open_header None b front none p = tt
+open_header (Some x) None front none p = absurd p
+open_header (Some x) (Some y) front none p =
+    subst (λ bytes. TakesHeaderPart input.Y4m bytes y) (sym p) (
+      length front,
+      record { within = omega (arith, length-append front y); left = sym (drop_at front y (length front) refl) },
+      open_header_at front y (header_cut (front ++ y)) none refl,
+    )
+
+-- a read of the header failed
+pub header_open : (a b : Shown) (result : Result Header HeaderEnd) → OnErr (header_reads result) (TakesOpen a b) → OnErr (header_reads result) (IfTold a.bytes b.bytes (TakesHeaderPart input.Y4m))
+header_open a b (Ok h) p = tt
+header_open a b (Err (header.Stream fault)) p = tt
+header_open a b (Err header.ReadFault) p = open_header a.bytes b.bytes p.0 p.1 p.2
+header_open a b (Err header.OutOfMemory) p = tt

@@ -3,6 +3,7 @@ pub mod FormatLines
 pub mod Fronts
 pub mod Last
 pub mod Lifts
+pub mod Opened
 pub mod Parts
 pub mod Places
 pub mod Runs

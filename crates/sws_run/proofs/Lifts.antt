@@ -1,5 +1,5 @@
 -- From the frames of an input to the whole: the header of the input, and that of the output, stand before them.
-use Rattle.std.proofs.Common.{◌≡◌, true, false, ℕ, ◌+◌, ◌-◌, ◌<◌, ◌≤◌, List, [], ◌∷◌, ◌++◌, length, refl, sym, ap, ◌∙◌, arith, subst, map, take, drop, IfSome, Result, Ok, Err, nat_le, if◌then◌else◌, length-append, length-drop, append-nil, ◌⊎◌, inl, inr}
+use Rattle.std.proofs.Common.{◌≡◌, true, false, ℕ, ◌+◌, ◌-◌, ◌<◌, ◌≤◌, List, [], ◌∷◌, ◌++◌, length, refl, sym, ap, ◌∙◌, arith, subst, map, take, drop, IfSome, Result, Ok, Err, OnErr, nat_le, if◌then◌else◌, length-append, length-drop, append-nil, ◌⊎◌, inl, inr}
 use Rattle.std.proofs.lemmas.Bool.Decides.{nat_tests}
 use Rattle.std.proofs.Math.Seq.{take-append-add}
 use Rattle.std.proofs.lemmas.List.{take-append-le}
@@ -8,10 +8,13 @@ use Rattle.std.specs.declared.option.Option.{Option}
 use Rattle.std.specs.declared.option.Option.TheVariants.{None, Some}
 use Rattle.pix_io.specs.Shown.{Shown}
 use Rattle.pix_io.specs.Streams.{Writes, WritesPart, HasEnded}
-use Rattle.pix_io.specs.Faults.{Rose, HasNoFault}
+use Rattle.pix_io.specs.Faults.{Rose, HasCause, HasNoFault}
 use Rattle.pix_io.proofs.Calls.{Rose-after, Writes-trans, Writes-nil}
 use Rattle.y4m_io.specs.declared.fault.StreamFault.{StreamFault}
+use Rattle.y4m_io.specs.declared.fault.HeaderEnd.{HeaderEnd}
+use Rattle.y4m_io.specs.declared.fault.HeaderEnd.TheVariants as header
 use Rattle.y4m_io.specs.declared.header.Header.{Header}
+use Rattle.y4m_io.specs.Reading.{header_fault, header_reads}
 use Rattle.y4m_io.specs.HeaderLine.{HeaderLine}
 use Rattle.pix_meaning.specs.Target.{target_frame}
 use Rattle.sws_run.specs.declared.ended.Ended.{Ended}
@@ -25,7 +28,7 @@ use Rattle.sws_run.specs.Request.{form_of}
 use Rattle.sws_run.specs.Cut.{Cut, Frame, Frames, End, Clean, Broken, cut, cut_after, cut_behind, header_line_cut, header_size, source_length, frames_cut, most_frames, frames_within, whole_within}
 use Rattle.sws_run.specs.Output.{Output, header_of, header_in, front_in, frame_text, output_behind, output_for, input_by, output_by, ending_by, ending_at, text_after, text_of, text_for, frames_in}
 use Rattle.sws_run.specs.Sides.{pair_of}
-use Rattle.sws_run.specs.Frames.{IfTold, IsBehind, IsShortOf, TakesHeader, TakesHeaderPart, IsConverterOf, text_by, frames_by, texts_by, EndsFrames, StopsReading, StopsWriting}
+use Rattle.sws_run.specs.Frames.{IfTold, IsBehind, IsShortOf, TakesHeader, TakesHeaderPart, IsConverterOf, text_by, frames_by, texts_by, EndsFrames, StopsReading, StopsWriting, ended_by}
 use Rattle.sws_run.specs.Ending.{CanEnd, IsOpeningFault, IfOutOfMemory}
 use Rattle.sws_run.specs.Run.{IfTaken, IsConversion, GivesAnswer, GivesReadFault, GivesWriteFault, GivesOutOfMemory, IsComplete}
 use Rattle.sws_run.proofs.Endings.{done_map, read_map, write_map, memory_map, unless_read_map, unless_write_map}
@@ -319,3 +322,39 @@ header_write_fault conversion header converter n s0 s1 k0 k1 rose told part = re
   place = told_old s0.bytes s1.bytes (Meets conversion header converter n) (λ x. WritePlace k0 k1 0 (output_by (Ok (request.Convert conversion)) x))
       (λ x y m. subst (WritePlace k0 k1 0) (sym m.output) (header_place (header_in conversion.target_form (header_of conversion header)) (texts_by converter n y) k0 k1 part)) told;
 }
+
+-- ---- an input that gave no header
+
+pub exit_answer : (conversion : Conversion) (end : HeaderEnd) (s0 s1 k : Shown) → IfSome (header_fault end) (IsOpeningFault (form_of conversion.input))
+    → IfSome (header_fault end) (λ fault. IfSome s0.bytes (λ bytes. header_line_cut conversion.input bytes ≡ Err fault))
+    → GivesAnswer (Ok (request.Convert conversion)) s0 s1 k k (ended_by end)
+exit_answer conversion (header.Stream fault) s0 s1 k known is = header_answer conversion fault s0 s1 k known is
+exit_answer conversion header.ReadFault s0 s1 k known is =
+    record { words = λ no. absurd no; ending = λ no. absurd no; output = λ no. absurd no; read = tt; unread = λ no. absurd (no tt); refused = tt }
+exit_answer conversion header.OutOfMemory s0 s1 k known is =
+    record { words = λ no. absurd no; ending = λ no. absurd no; output = λ no. absurd no; read = tt; unread = λ no. absurd (no tt); refused = tt }
+
+pub exit_read_fault : (conversion : Conversion) (end : HeaderEnd) (s0 s1 k : Shown) → HasCause s0 s1 (header_reads {T = Header} (Err end))
+    → OnErr (header_reads {T = Header} (Err end)) (IfTold s0.bytes s1.bytes (TakesHeaderPart conversion.input))
+    → GivesReadFault (Ok (request.Convert conversion)) s0 s1 k k (ended_by end)
+exit_read_fault conversion (header.Stream fault) s0 s1 k cause part = record { cause = tt; place = tt }
+exit_read_fault conversion header.ReadFault s0 s1 k cause part = header_read_fault conversion s0 s1 k cause.failed part
+exit_read_fault conversion header.OutOfMemory s0 s1 k cause part = record { cause = tt; place = tt }
+
+pub exit_write_fault : (conversion : Conversion) (end : HeaderEnd) (s0 s1 k : Shown) → GivesWriteFault (Ok (request.Convert conversion)) s0 s1 k k (ended_by end)
+exit_write_fault conversion (header.Stream fault) s0 s1 k = record { cause = tt; place = tt }
+exit_write_fault conversion header.ReadFault s0 s1 k = record { cause = tt; place = tt }
+exit_write_fault conversion header.OutOfMemory s0 s1 k = record { cause = tt; place = tt }
+
+pub exit_memory : (conversion : Conversion) (end : HeaderEnd) (s0 s1 k : Shown) → GivesOutOfMemory (Ok (request.Convert conversion)) s0 s1 k k (ended_by end)
+exit_memory conversion (header.Stream fault) s0 s1 k = record { output = tt }
+exit_memory conversion header.ReadFault s0 s1 k = record { output = tt }
+exit_memory conversion header.OutOfMemory s0 s1 k = record { output = inl (refl, Writes-nil k) }
+
+pub exit_complete : (end : HeaderEnd) (s0 s1 k : Shown) → HasCause s0 s1 (header_reads {T = Header} (Err end)) → IsComplete s0 s1 k k (ended_by end)
+exit_complete (header.Stream fault) s0 s1 k cause =
+    record { read = cause.kept; written = refl; read_fault = λ _. tt; write_fault = λ _. tt; source_made = cause.made; sink_made = refl }
+exit_complete header.ReadFault s0 s1 k cause =
+    record { read = tt; written = refl; read_fault = λ no. no cause.failed; write_fault = λ _. tt; source_made = cause.made; sink_made = refl }
+exit_complete header.OutOfMemory s0 s1 k cause =
+    record { read = tt; written = tt; read_fault = λ _. tt; write_fault = λ _. tt; source_made = cause.made; sink_made = refl }

@@ -9,9 +9,12 @@ use Rattle.desc_table.specs.Format.{format_count}
 use Rattle.sws_words.specs.declared.task.Form.{Form}
 use Rattle.sws_words.specs.Task.{IsFrame}
 use Rattle.y4m_io.specs.declared.fault.StreamFault.{StreamFault}
+use Rattle.y4m_io.specs.declared.fault.HeaderEnd.{HeaderEnd}
+use Rattle.y4m_io.specs.declared.fault.HeaderEnd.TheVariants as header
 use Rattle.y4m_io.specs.declared.header.Header.{Header}
 use Rattle.y4m_io.specs.HeaderLine.{HeaderLine}
 use Rattle.sws_run.specs.declared.ended.Ended.{Ended}
+use Rattle.sws_run.specs.declared.ended.Ended.TheVariants.{Stream, ReadFault, OutOfMemory}
 use Rattle.sws_run.specs.declared.frame.Next.{Next}
 use Rattle.sws_run.specs.declared.frame.Next.TheVariants as next
 use Rattle.sws_run.specs.declared.request.Input.{Input}
@@ -75,6 +78,12 @@ IsShortOf n (Err fault) = Unit {0}
 -- fewer bytes were taken than the header's line has
 abbrev pub TakesHeaderPart : Input → List ℕ → List ℕ → Type 0
 TakesHeaderPart input bytes rest = (n : ℕ) × IsBehind n bytes rest × IsShortOf n (header_line_cut input bytes)
+
+-- how a run ends whose input gave no header
+abbrev pub ended_by : HeaderEnd → Ended
+ended_by (header.Stream fault) = Stream fault 0
+ended_by header.ReadFault = ReadFault 0
+ended_by header.OutOfMemory = OutOfMemory 0
 
 -- what holds of every header: a format of the table, and a frame's size
 pub record IsSoundOpening (header : Header) : Type 0 where

@@ -3,9 +3,9 @@ ghost use Rattle.std.specs.Prelude.{◌≡◌, length, Ok, IfOk};
 ghost use Rattle.pix_desc.specs.Frame.{frame_length};
 ghost use Rattle.desc_table.specs.Format.{desc_of};
 ghost use Rattle.sws_run.specs.Cut.{source_length};
-ghost use Rattle.sws_run.specs.Frames.{IsConverterOf, IsSoundOpening};
+ghost use Rattle.sws_run.specs.Frames.{IsConverterOf, IsSoundOpening, ended_by};
 ghost use Rattle.sws_run.specs.Output.{header_of, header_in};
-ghost use Rattle.sws_run.specs.Request.{IsSoundConversion};
+ghost use Rattle.sws_run.specs.Request.{form_of, IsSoundConversion};
 ghost use Rattle.sws_run.specs.Run.{GivesAnswer, GivesReadFault, GivesWriteFault, GivesOutOfMemory, IsComplete};
 ghost use Rattle.sws_run.specs.Sides.{pair_of};
 
@@ -54,7 +54,7 @@ fn plan_of(alloc: Global, conversion: &Conversion, header: &Header) -> Result<Pl
 
 // The form of a source.
 fn form_of(input: &Input) -> Form
-    ensures { result ≡ Rattle.sws_run.specs.Request.form_of input.now }
+    ensures { result ≡ form_of input.now }
 {
     match input {
         Input::Raw { .. } => Form::Raw,
@@ -88,6 +88,17 @@ fn prepare(alloc: Global, conversion: &Conversion, header: Header) -> Result<Str
     })
 }
 
+// How a run ends whose input gave no header.
+fn ended_by(end: HeaderEnd) -> Ended
+    ensures { result ≡ ended_by end }
+{
+    match end {
+        HeaderEnd::Stream(fault) => Ended::Stream { fault, frames: 0 },
+        HeaderEnd::ReadFault => Ended::ReadFault { frames: 0 },
+        HeaderEnd::OutOfMemory => Ended::OutOfMemory { frames: 0 },
+    }
+}
+
 /// Converts a stream: reads the header of the input, writes that of the output, and then converts frame after frame.
 pub fn convert<In: Source, Out: Sink>(
     alloc: Global,
@@ -104,9 +115,7 @@ pub fn convert<In: Source, Out: Sink>(
 {
     let header = match input_header(alloc, &conversion.input, input) {
         Ok(header) => header,
-        Err(HeaderEnd::Stream(fault)) => return Ended::Stream { fault, frames: 0 },
-        Err(HeaderEnd::ReadFault) => return Ended::ReadFault { frames: 0 },
-        Err(HeaderEnd::OutOfMemory) => return Ended::OutOfMemory { frames: 0 },
+        Err(end) => return ended_by(end),
     };
     let Ok(mut stream) = prepare(alloc, conversion, header) else {
         return Ended::OutOfMemory { frames: 0 };

@@ -1,5 +1,6 @@
 // The run of the program, from its words to its ending.
 ghost use Rattle.std.specs.Prelude.{◌≡◌, map, string_bytes, Ok, Err};
+ghost use Rattle.pix_io.specs.Shown.{Shown};
 ghost use Rattle.sws_run.specs.Request.{asked_by};
 ghost use Rattle.sws_run.specs.Run.{GivesAnswer, GivesReadFault, GivesWriteFault, GivesOutOfMemory, GivesNotes, IsComplete};
 
@@ -23,7 +24,13 @@ pub struct OpenGate;
 impl Gate for OpenGate {}
 
 // Writes the list of formats.
-fn list<Out: Sink>(alloc: Global, output: &mut Out) -> Ended {
+fn list<Out: Sink>(alloc: Global, output: &mut Out) -> Ended
+    ensures answer { (source : Shown) → GivesAnswer (Ok Request.List) source source (Out.shown output.old) (Out.shown output.new) result }
+    ensures read_fault { (source : Shown) → GivesReadFault (Ok Request.List) source source (Out.shown output.old) (Out.shown output.new) result }
+    ensures write_fault { (source : Shown) → GivesWriteFault (Ok Request.List) source source (Out.shown output.old) (Out.shown output.new) result }
+    ensures memory { (source : Shown) → GivesOutOfMemory (Ok Request.List) source source (Out.shown output.old) (Out.shown output.new) result }
+    ensures complete { (source : Shown) → IsComplete source source (Out.shown output.old) (Out.shown output.new) result }
+{
     let Ok(text) = list_text(alloc) else {
         return Ended::OutOfMemory { frames: 0 };
     };
