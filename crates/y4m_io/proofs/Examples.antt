@@ -2,7 +2,7 @@
 use Rattle.std.proofs.Common.{refl}
 use Rattle.std.specs.Fmt.{digits}
 use Rattle.desc_table.specs.Format.{formats, format_at}
-use Rattle.desc_table.specs.Refused.{refused, lookup}
+use Rattle.desc_table.specs.Refused.{refused, row_named, fault_named, lookup}
 use Rattle.y4m_io.specs.Lines.{line_cut}
 use Rattle.y4m_io.specs.StreamFormats.{colour_spaces, format_of_text, text_of_name}
 use Rattle.y4m_io.specs.HeaderLine.{header_of, header_cut}
@@ -11,7 +11,7 @@ use Rattle.y4m_io.specs.HeaderText.{header_text}
 use Rattle.y4m_io.specs.Examples.{WorkedLines, WorkedTexts}
 
 pub worked_lines : WorkedLines
-unfolding formats refused lookup line_cut colour_spaces format_of_text header_of header_cut frame_line_cut
+unfolding formats refused row_named fault_named lookup line_cut colour_spaces format_of_text header_of header_cut frame_line_cut
 worked_lines = record {
   whole = refl;
   deep = refl;
@@ -37,5 +37,5 @@ worked_lines = record {
 }
 
 pub worked_texts : WorkedTexts
-unfolding formats format_at refused lookup colour_spaces text_of_name header_text digits
+unfolding formats format_at refused row_named fault_named lookup colour_spaces text_of_name header_text digits
 worked_texts = record { defaults = refl; full = refl; gray = refl; copied = refl }
