@@ -51,7 +51,7 @@ whole_behind form front bytes mid rest frame is behind same =
     let here : IsBehind (length frame) mid rest = record { within = omega (arith, size); left = left } in (
       front + length frame,
       piece_front form (length frame) bytes (Ok (Some front)) is ∙ piece_enough front (length frame) bytes fits
-      ∙ ap (λ (b : List ℕ). Whole (record { bytes = b; size = front + length frame })) taken,
+          ∙ ap (λ (b : List ℕ). Whole (record { bytes = b; size = front + length frame })) taken,
       behind_then front (length frame) bytes mid rest behind here,
     )
 

@@ -202,7 +202,7 @@ answer_lift conversion header converter n s0 s1 s2 k0 k1 k2 ended form told wrot
   output = λ d. told_now s0.bytes s1.bytes (Meets conversion header converter n) (λ y. Writes k1 k2 (concat (texts_by converter n y)))
       (λ x. Writes k0 k2 (text_of (output_by (Ok (request.Convert conversion)) x)))
       (λ x y m w. subst (λ o. Writes k0 k2 (text_of o)) (sym m.output)
-          (Writes-trans k0 k1 k2 (header_in conversion.target_form (header_of conversion header)) (concat (texts_by converter n y)) wrote w)) told (ends.output d);
+      (Writes-trans k0 k1 k2 (header_in conversion.target_form (header_of conversion header)) (concat (texts_by converter n y)) wrote w)) told (ends.output d);
   read = done_map ended (HasEnded s2) (IsConversion (Ok (request.Convert conversion)) → HasEnded s2) (λ e. λ _. e) ends.read;
   unread = λ no. absurd (no tt);
   refused = tt;
@@ -217,20 +217,20 @@ read_lift conversion header converter n s0 s1 s2 k0 k1 k2 ended quiet told wrote
     let text = header_in conversion.target_form (header_of conversion header) in
     let P = λ (k : ℕ) (x : List ℕ) (m : ℕ). ReadPlace k0 k2 k m (input_by asked x) (output_by asked x) in
     let inner = λ (k : ℕ) (y z : List ℕ). let t : Type 0 = (m : ℕ) × IsBehind m y z × (k ≡ whole_within (λ frame. frame.size) m (frames_by converter n y).frames)
-        × Writes k1 k2 (concat (take k (texts_by converter n y))) in t in
+    × Writes k1 k2 (concat (take k (texts_by converter n y))) in t in
     record {
       cause = read_map ended (λ k. Rose s1.faults s2.faults) (λ k. IsConversion asked × Rose s0.faults s2.faults)
           (λ k r. (tt, Rose-after s0.faults s1.faults s2.faults quiet.faults r)) stops.cause;
       place = read_map ended (λ k. IfTold s1.bytes s2.bytes (inner k)) (λ k. IfTaken s0.bytes s2.bytes (P k))
           (λ k p. taken_told s0.bytes s2.bytes (P k)
-              (told_then s0.bytes s1.bytes s2.bytes (Meets conversion header converter n) (inner k) (λ x z. (m : ℕ) × IsBehind m x z × P k x m)
-                  (λ x y z m q. (
-                    m.size + q.0,
-                    behind_then m.size q.0 x y z m.behind q.1,
-                    subst (λ c. ReadPlace k0 k2 k (m.size + q.0) c (output_by asked x)) (sym m.input)
-                    (subst (ReadPlace k0 k2 k (m.size + q.0) (record { header = Some (record { header = header; size = m.size }); frames = (frames_by converter n y).frames; end = (frames_by converter n y).end })) (sym m.output)
-                        (read_place (record { header = header; size = m.size }) (frames_by converter n y).frames (frames_by converter n y).end text (texts_by converter n y) k0 k1 k2 k q.0 wrote q.2 q.3)),
-                  )) told p)) stops.place;
+          (told_then s0.bytes s1.bytes s2.bytes (Meets conversion header converter n) (inner k) (λ x z. (m : ℕ) × IsBehind m x z × P k x m)
+          (λ x y z m q. (
+            m.size + q.0,
+            behind_then m.size q.0 x y z m.behind q.1,
+            subst (λ c. ReadPlace k0 k2 k (m.size + q.0) c (output_by asked x)) (sym m.input)
+                (subst (ReadPlace k0 k2 k (m.size + q.0) (record { header = Some (record { header = header; size = m.size }); frames = (frames_by converter n y).frames; end = (frames_by converter n y).end })) (sym m.output)
+                (read_place (record { header = header; size = m.size }) (frames_by converter n y).frames (frames_by converter n y).end text (texts_by converter n y) k0 k1 k2 k q.0 wrote q.2 q.3)),
+          )) told p)) stops.place;
     }
 
 pub write_lift : (conversion : Conversion) (header : Header) (converter : Converter) (n : ℕ) (s0 s1 s2 k0 k1 k2 : Shown) (ended : Ended)
@@ -241,13 +241,13 @@ write_lift conversion header converter n s0 s1 s2 k0 k1 k2 ended quiet told wrot
     let asked : Result Request Ended = Ok (request.Convert conversion) in
     let text = header_in conversion.target_form (header_of conversion header) in
     let inner = λ (k : ℕ) (y : List ℕ). let t : Type 0 = (m : ℕ) × (m < length (concat (texts_by converter n y))) × Writes k1 k2 (take m (concat (texts_by converter n y)))
-        × (k ≡ whole_within length m (texts_by converter n y)) in t in
+    × (k ≡ whole_within length m (texts_by converter n y)) in t in
     record {
       cause = write_map ended (λ k. Rose k1.faults k2.faults) (λ k. Rose k0.faults k2.faults)
           (λ k r. Rose-after k0.faults k1.faults k2.faults quiet.faults r) stops.cause;
       place = write_map ended (λ k. IfSome s1.bytes (inner k)) (λ k. IfSome s0.bytes (λ x. WritePlace k0 k2 k (output_by asked x)))
           (λ k p. told_now s0.bytes s1.bytes (Meets conversion header converter n) (inner k) (λ x. WritePlace k0 k2 k (output_by asked x))
-              (λ x y m q. subst (WritePlace k0 k2 k) (sym m.output) (write_place text (texts_by converter n y) k0 k1 k2 k q.0 wrote q.1 q.2 q.3)) told p) stops.place;
+          (λ x y m q. subst (WritePlace k0 k2 k) (sym m.output) (write_place text (texts_by converter n y) k0 k1 k2 k q.0 wrote q.1 q.2 q.3)) told p) stops.place;
     }
 
 pub complete_lift : (s0 s1 s2 k0 k1 k2 : Shown) (ended : Ended) → HasNoFault s0 s1 → HasNoFault k0 k1 → IsComplete s1 s2 k1 k2 ended → IsComplete s0 s2 k0 k2 ended
@@ -294,8 +294,8 @@ part_at conversion k bytes n (Ok line) is short =
     subst (λ c. ReadPlace k k 0 n c (output_by (Ok (request.Convert conversion)) bytes)) (sym (cut_is conversion.input bytes (Ok line) is)) (
       (let below : n < line.size = short in grind (arith, nat_tests, below)),
       (let below : n < line.size = short in
-      let none : text_for (cut_behind (form_of conversion.input) line bytes) (output_by (Ok (request.Convert conversion)) bytes) n ≡ [] = grind (arith, nat_tests, below) in
-      subst (Writes k k) (sym none) (Writes-nil k)),
+          let none : text_for (cut_behind (form_of conversion.input) line bytes) (output_by (Ok (request.Convert conversion)) bytes) n ≡ [] = grind (arith, nat_tests, below) in
+          subst (Writes k k) (sym none) (Writes-nil k)),
     )
 part_at conversion k bytes n (Err fault) is short =
     let failed = fails conversion fault bytes is in
@@ -311,7 +311,7 @@ header_read_fault conversion s0 s1 k rose part =
       cause = (tt, rose);
       place = taken_told s0.bytes s1.bytes P
           (told_map s0.bytes s1.bytes (TakesHeaderPart conversion.input) (λ x z. (m : ℕ) × IsBehind m x z × P x m)
-              (λ x z p. (p.0, p.1, part_at conversion k x p.0 (header_line_cut conversion.input x) refl p.2)) part);
+          (λ x z p. (p.0, p.1, part_at conversion k x p.0 (header_line_cut conversion.input x) refl p.2)) part);
     }
 
 pub header_write_fault : (conversion : Conversion) (header : Header) (converter : Converter) (n : ℕ) (s0 s1 k0 k1 : Shown) → Rose k0.faults k1.faults

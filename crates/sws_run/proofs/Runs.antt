@@ -72,7 +72,7 @@ pub texts_whole : (converter : Converter) (size k : ℕ) (end : End) (a : Option
 texts_whole converter size k end a sink sink' is wrote =
     some_map2 a (HasFrames converter size k end) (WritesTexts converter size sink sink' k) (λ bytes. Writes sink sink' (concat (texts_by converter size bytes)))
     (λ x p w. subst (λ texts. Writes sink sink' (concat texts))
-        (all_texts (texts_by converter size x) k (length-map (frames_by converter size x).frames (λ frame. text_by converter frame.bytes) ∙ p.0)) w) is wrote
+    (all_texts (texts_by converter size x) k (length-map (frames_by converter size x).frames (λ frame. text_by converter frame.bytes) ∙ p.0)) w) is wrote
 
 -- ---- a read fault
 
@@ -102,27 +102,27 @@ within_last converter size bytes mid rest at same =
 with_texts : (converter : Converter) (size k : ℕ) (a b : Option (List ℕ)) (sink sink' : Shown) → IfTold a b (IsWithin converter size k)
     → IfSome a (WritesTexts converter size sink sink' k)
     → IfTold a b (λ bytes rest. (n : ℕ) × IsBehind n bytes rest × (k ≡ whole_within (λ frame. frame.size) n (frames_by converter size bytes).frames)
-        × Writes sink sink' (concat (take k (texts_by converter size bytes))))
+    × Writes sink sink' (concat (take k (texts_by converter size bytes))))
 with_texts converter size k a b sink sink' within wrote =
     told_with a b (IsWithin converter size k) (WritesTexts converter size sink sink' k) _ (λ x y p w. (p.0, p.1, p.2, w)) within wrote
 
 pub stops_in_part : (converter : Converter) (size k : ℕ) (a b c : Option (List ℕ)) (sink sink' : Shown) → k < most_frames → IfTold a b (IsBehindFrames converter size k)
     → IfTold b c (TakesPiece converter.source_form size) → IfSome a (WritesTexts converter size sink sink' k)
     → IfTold a c (λ bytes rest. (n : ℕ) × IsBehind n bytes rest × (k ≡ whole_within (λ frame. frame.size) n (frames_by converter size bytes).frames)
-        × Writes sink sink' (concat (take k (texts_by converter size bytes))))
+    × Writes sink sink' (concat (take k (texts_by converter size bytes))))
 stops_in_part converter size k a b c sink sink' more at part wrote =
     with_texts converter size k a c sink sink'
     (told_then a b c (IsBehindFrames converter size k) (TakesPiece converter.source_form size) (IsWithin converter size k)
-        (λ x y z p q. within_part converter size k x y z more p q) at part) wrote
+    (λ x y z p q. within_part converter size k x y z more p q) at part) wrote
 
 pub stops_at_last : (converter : Converter) (size : ℕ) (a b c : Option (List ℕ)) (sink sink' : Shown) → IfTold a b (IsBehindFrames converter size most_frames)
     → IfTold b c (λ bytes rest. rest ≡ bytes) → IfSome a (WritesTexts converter size sink sink' most_frames)
     → IfTold a c (λ bytes rest. (n : ℕ) × IsBehind n bytes rest × (most_frames ≡ whole_within (λ frame. frame.size) n (frames_by converter size bytes).frames)
-        × Writes sink sink' (concat (take most_frames (texts_by converter size bytes))))
+    × Writes sink sink' (concat (take most_frames (texts_by converter size bytes))))
 stops_at_last converter size a b c sink sink' at kept wrote =
     with_texts converter size most_frames a c sink sink'
     (told_then a b c (IsBehindFrames converter size most_frames) (λ bytes rest. rest ≡ bytes) (IsWithin converter size most_frames)
-        (λ x y z p q. within_last converter size x y z p q) at kept) wrote
+    (λ x y z p q. within_last converter size x y z p q) at kept) wrote
 
 -- ---- a frame more
 
@@ -158,20 +158,23 @@ pub has_text : (converter : Converter) (size k : ℕ) (frame : List ℕ) (a b c 
 has_text converter size k frame a b c more long at taken =
     told_old a c (λ x z. HasText converter size k (text_by converter frame) x) (HasText converter size k (text_by converter frame)) (λ x z p. p)
     (told_then a b c (IsBehindFrames converter size k) (TakesFrame converter.source_form frame) (λ x z. HasText converter size k (text_by converter frame) x)
-        (λ x y z p q. (_, text_stands converter size k (record { bytes = frame; size = q.0 }) _ (frames_by converter size x).frames
-            (at_frame converter.source_form size most_frames k x y (record { bytes = frame; size = q.0 }) more p (piece_is converter size q.0 frame y long q.1)))) at taken)
+    (λ x y z p q. (
+      _,
+      text_stands converter size k (record { bytes = frame; size = q.0 }) _ (frames_by converter size x).frames
+          (at_frame converter.source_form size most_frames k x y (record { bytes = frame; size = q.0 }) more p (piece_is converter size q.0 frame y long q.1)),
+    )) at taken)
 
 pub next_texts : (converter : Converter) (size k : ℕ) (text : List ℕ) (a : Option (List ℕ)) (sink sink' sink'' : Shown) → IfSome a (HasText converter size k text)
     → IfSome a (WritesTexts converter size sink sink' k) → Writes sink' sink'' text → IfSome a (WritesTexts converter size sink sink'' (k + 1))
 next_texts converter size k text a sink sink' sink'' has wrote more =
     some_map2 a (HasText converter size k text) (WritesTexts converter size sink sink' k) (WritesTexts converter size sink sink'' (k + 1))
     (λ x p w. subst (Writes sink sink'') (sym (concat-next k text p.0 (texts_by converter size x) p.1))
-        (Writes-trans sink sink' sink'' (concat (take k (texts_by converter size x))) text w more)) has wrote
+    (Writes-trans sink sink' sink'' (concat (take k (texts_by converter size x))) text w more)) has wrote
 
 part_written : (converter : Converter) (size k : ℕ) (text bytes : List ℕ) (sink sink' sink'' : Shown) → HasText converter size k text bytes
     → WritesTexts converter size sink sink' k bytes → WritesPart sink' sink'' text
     → (n : ℕ) × (n < length (concat (texts_by converter size bytes))) × Writes sink sink'' (take n (concat (texts_by converter size bytes)))
-        × (k ≡ whole_within length n (texts_by converter size bytes))
+    × (k ≡ whole_within length n (texts_by converter size bytes))
 part_written converter size k text bytes sink sink' sink'' has wrote part =
     let all = texts_by converter size bytes in
     let ends = ends_in k part.0 text has.0 all has.1 part.1 in (
@@ -184,7 +187,7 @@ part_written converter size k text bytes sink sink' sink'' has wrote part =
 pub stops_writing : (converter : Converter) (size k : ℕ) (text : List ℕ) (a : Option (List ℕ)) (sink sink' sink'' : Shown) → IfSome a (HasText converter size k text)
     → IfSome a (WritesTexts converter size sink sink' k) → WritesPart sink' sink'' text
     → IfSome a (λ bytes. (n : ℕ) × (n < length (concat (texts_by converter size bytes))) × Writes sink sink'' (take n (concat (texts_by converter size bytes)))
-        × (k ≡ whole_within length n (texts_by converter size bytes)))
+    × (k ≡ whole_within length n (texts_by converter size bytes)))
 stops_writing converter size k text a sink sink' sink'' has wrote part =
     some_map2 a (HasText converter size k text) (WritesTexts converter size sink sink' k) _
     (λ x p w. part_written converter size k text x sink sink' sink'' p w part) has wrote

@@ -71,10 +71,10 @@ with_frame frame behind = record { frames = frame ∷ behind.frames; end = behin
 unfoldable pub frames_cut : Form → ℕ → ℕ → List ℕ → Frames
 frames_cut form size zero bytes = record { frames = []; end = last_end bytes }
 frames_cut form size (suc most) bytes = elim (piece_cut form size bytes) [
-    Nothing ↦ record { frames = []; end = Clean }
+  | Nothing ↦ record { frames = []; end = Clean }
   | Whole frame ↦ with_frame frame (frames_cut form size most (drop frame.size bytes))
   | Faulty fault ↦ record { frames = []; end = Broken fault }
-  ]
+]
 
 -- ---- the whole input
 

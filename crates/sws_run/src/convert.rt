@@ -78,8 +78,14 @@ fn prepare(alloc: Global, conversion: &Conversion, header: Header) -> Result<Str
         source_form: form_of(&conversion.input),
         target_form: conversion.target_form,
     };
-    let frame = zeros(alloc, frame_len(&desc(header.format), header.width, header.height))?;
-    let target = zeros(alloc, frame_len(&desc(conversion.target), header.width, header.height))?;
+    let frame = zeros(
+        alloc,
+        frame_len(&desc(header.format), header.width, header.height),
+    )?;
+    let target = zeros(
+        alloc,
+        frame_len(&desc(conversion.target), header.width, header.height),
+    )?;
     Ok(Stream {
         converter,
         text: output_header(alloc, conversion, header)?,
@@ -124,5 +130,11 @@ pub fn convert<In: Source, Out: Sink>(
         Ok(()) => {}
         Err(_) => return Ended::WriteFault { frames: 0 },
     }
-    convert_frames(&stream.converter, input, output, &mut stream.frame, &mut stream.target)
+    convert_frames(
+        &stream.converter,
+        input,
+        output,
+        &mut stream.frame,
+        &mut stream.target,
+    )
 }

@@ -91,9 +91,7 @@ pub fn list_text(alloc: Global) -> Result<String, OutOfMemory>
 {
     let mut text = String::with_capacity(alloc, LIST_LEN)?;
     for row in 0..count() {
-        let Some(id) = at(row) else {
-            unreachable!()
-        };
+        let Some(id) = at(row) else { unreachable!() };
         push_format(&mut text, id)?;
     }
     Ok(text)

@@ -14,3 +14,6 @@ mod top;
 
 pub use ended::{Ended, SideName};
 pub use top::{Gate, OpenGate, run_sws};
+
+#[cfg(test)]
+mod tests;

@@ -50,10 +50,15 @@ pub fn convert_frames<In: Source, Out: Sink>(
         match read_frame(converter.source_form, input, frame) {
             Ok(Next::Frame) => {}
             Ok(Next::End) => return Ended::Done { frames: done },
-            Err(LineEnd::Stream(fault)) => return Ended::Stream { fault, frames: done },
+            Err(LineEnd::Stream(fault)) => return Ended::Stream {
+                fault,
+                frames: done,
+            },
             Err(LineEnd::ReadFault) => return Ended::ReadFault { frames: done },
         }
-        converter.plan.convert_rows(0, converter.width, converter.height, frame, target);
+        converter
+            .plan
+            .convert_rows(0, converter.width, converter.height, frame, target);
         match write_frame(converter.target_form, output, target) {
             Ok(()) => {}
             Err(_) => return Ended::WriteFault { frames: done },
