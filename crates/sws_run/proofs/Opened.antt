@@ -6,7 +6,7 @@ use Rattle.pix_desc.specs.Component.{component_of}
 use Rattle.pix_desc.specs.Layouts.{IsValid}
 use Rattle.pix_desc.specs.Frame.{plane_step, frame_length}
 use Rattle.pix_desc.proofs.Valid.{laid_out}
-use Rattle.op_build.proofs.Planes.{bytes_read-positive}
+use Rattle.pix_desc.proofs.PlaneSteps.{bytes_read-positive}
 use Rattle.pix_io.proofs.Frames.{row_start-inside}
 use Rattle.desc_table.specs.Format.{desc_of}
 use Rattle.desc_table.proofs.Rows.{valid_at}
