@@ -12,7 +12,7 @@ use Rattle.desc_table.specs.declared.fault.FormatFault.{FormatFault}
 use Rattle.desc_table.specs.Format.{format_count}
 use Rattle.desc_table.specs.Refused.{lookup}
 use Rattle.desc_table.proofs.Lookup.{lookup-Ok}
-use Rattle.sws_words.specs.Given.{form_given, matrix_given, number_given, range_given, side_given, size_given, source_given, target_given}
+use Rattle.sws_words.specs.Given.{form_given, matrix_given, range_given, side_given, source_given, target_given}
 use Rattle.sws_words.specs.Given.{value_of}
 use Rattle.sws_words.specs.Options.{CommandOption, is_barred, is_needed, is_stream, option, options}
 use Rattle.sws_words.specs.Values.{form_named, is_frame_size, is_value, number_of, number_within, size_of}
