@@ -23,8 +23,19 @@ HasNoFault-trans a b c p q = record { faults = q.faults ∙ p.faults; made = q.m
 
 -- a call after calls that did not fail
 pub HasCause-after : {T E : Type 0} (a b c : Shown) (r : Result T E) → HasNoFault a b → HasCause b c r → HasCause a c r
-HasCause-after a b c (Ok x) p q = record { later = omega (arith, p.faults, q.later); failed = tt; kept = q.kept ∙ p.faults; made = q.made ∙ p.made }
-HasCause-after a b c (Err e) p q = record { later = omega (arith, p.faults, q.later); failed = Rose-after a.faults b.faults c.faults p.faults q.failed; kept = tt; made = q.made ∙ p.made }
+HasCause-after a b c (Ok x) p q = record {
+  later = omega (arith, p.faults, q.later);
+  failed = tt;
+  kept = q.kept ∙ p.faults;
+  made = q.made
+      ∙ p.made;
+}
+HasCause-after a b c (Err e) p q = record {
+  later = omega (arith, p.faults, q.later);
+  failed = Rose-after a.faults b.faults c.faults p.faults q.failed;
+  kept = tt;
+  made = q.made ∙ p.made;
+}
 
 -- a call that did not fail
 pub HasCause-ok : {T E : Type 0} (a b : Shown) (x : T) → HasCause {T = T} {E = E} a b (Ok x) → HasNoFault a b

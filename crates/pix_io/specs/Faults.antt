@@ -1,4 +1,5 @@
--- When a call may answer a fault of a source or a sink: by the object's own count of faults. Each word takes what the object shows before and after.
+-- When a call may answer a fault of a source or a sink: by the object's own count of faults. Each word takes what the object shows before
+-- and after.
 use Rattle.std.specs.Prelude.{◌≡◌, ℕ, ◌-◌, ◌^◌, ◌<◌, ◌≤◌, ◌⊎◌, Result, OnOk, OnErr}
 use Rattle.pix_io.specs.Shown.{Shown}
 

@@ -1,4 +1,5 @@
--- What is read from a source and written to a sink, where the bytes left and the bytes written are told. Each word takes what is shown before and after.
+-- What is read from a source and written to a sink, where the bytes left and the bytes written are told. Each word takes what is shown
+-- before and after.
 use Rattle.std.specs.Prelude.{ℕ, ◌<◌, List, [], length, take, Result, IfOk}
 use Rattle.std.specs.Io.KnownBytes.{Consumes, Appends, IsAtEnd}
 use Rattle.pix_io.specs.declared.transfer.Got.{Got}

@@ -1,7 +1,8 @@
 // Where the rows of a raw frame lie.
 ghost use Rattle.std.specs.Prelude.{◌≡◌, ◌+◌, ◌*◌, ◌<◌, ◌≤◌};
 ghost use Rattle.pix_desc.specs.Layouts.{IsValid, IsLaidOut};
-ghost use Rattle.pix_desc.specs.Frame.{plane_step, row_length, plane_start, frame_length, row_start};
+ghost use Rattle.pix_desc.specs.Frame.{plane_step, row_length, plane_start, frame_length};
+ghost use Rattle.pix_desc.specs.Frame.{row_start};
 
 use pix_desc::Desc;
 
@@ -45,8 +46,8 @@ fn len_before(desc: &Desc, width: u32, height: u32, plane: u8) -> u64
     len
 }
 
-/// The bytes of a raw frame of a format: its planes in order, each with its rows from the top and no padding, and for a
-/// palette format 256 entries of 4 bytes behind them.
+/// The bytes of a raw frame of a format: its planes in order, each with its rows from the top and
+/// no padding, and for a palette format 256 entries of 4 bytes behind them.
 #[tactic(auto, unfolding(pix_desc::specs::Frame::frame_length))]
 pub fn frame_len(desc: &Desc, width: u32, height: u32) -> u64
     requires valid { IsValid desc.now }
@@ -59,7 +60,8 @@ pub fn frame_len(desc: &Desc, width: u32, height: u32) -> u64
     if desc.palette { planes + 1024 } else { planes }
 }
 
-/// Where a row of a plane begins in a raw frame, counted in bytes from the frame's first. The row is in the frame.
+/// Where a row of a plane begins in a raw frame, counted in bytes from the frame's first. The row
+/// is in the frame.
 #[tactic(auto, unfolding(pix_desc::specs::Frame::row_start))]
 pub fn row_start(desc: &Desc, width: u32, height: u32, plane: u8, row: u32) -> u64
     requires valid { IsValid desc.now }

@@ -5,8 +5,9 @@ use crate::{Failed, Sink};
 use frac_math::OutOfMemory;
 use std::alloc::Global;
 
-/// A sink that keeps what is written, up to a number of bytes, and takes at most `piece` of them a write. It fails where
-/// it is full and at the writes that it is told, so that a caller's faults can be tried.
+/// A sink that keeps what is written, up to a number of bytes, and takes at most `piece` of them a
+/// write. It fails where it is full and at the writes that it is told, so that a caller's faults
+/// can be tried.
 #[derive(Drop)]
 pub struct MemSink {
     bytes: Vec<u8>,
@@ -23,10 +24,11 @@ pub struct MemSink {
 
 impl MemSink {
     ghost use Rattle.std.specs.Prelude.{IfOk, length};
-    ghost use Rattle.pix_io.specs.Memory.{bytes_written, room_of, most_written, write_count, write_faults, failing_writes};
+    ghost use Rattle.pix_io.specs.Memory.{bytes_written, room_of, most_written, write_count};
+    ghost use Rattle.pix_io.specs.Memory.{write_faults, failing_writes};
 
-    /// A sink with room for `room` bytes, whose memory is taken here. The writes whose numbers, from 0, are in `fails`
-    /// answer `Failed`.
+    /// A sink with room for `room` bytes, whose memory is taken here. The writes whose numbers,
+    /// from 0, are in `fails` answer `Failed`.
     pub fn new(
         alloc: Global,
         room: usize,
@@ -61,32 +63,40 @@ impl MemSink {
     /// How many writes failed: none where it was told of none and is not full.
     pub fn faults(&self) -> u64
         ensures faults { result ≡ write_faults self.now }
-        ensures quiet { failing_writes self.now ≡ [] → length (bytes_written self.now) < room_of self.now → result ≡ 0 }
+        ensures quiet { failing_writes self.now ≡ []
+            → length (bytes_written self.now) < room_of self.now
+            → result ≡ 0 }
     {
         self.faults
     }
 }
 
 impl Sink for MemSink {
-    ghost use Rattle.std.specs.Prelude.{◌≡◌, ◌<◌, ◌↔◌, ◌⊎◌, ◌+◌, ◌^◌, ◌-◌, min, length, IsErr, IfOk, OnErr, Contains};
+    ghost use Rattle.std.specs.Prelude.{◌≡◌, ◌<◌, ◌↔◌, ◌⊎◌, ◌+◌, ◌^◌, ◌-◌, min, length, IsErr};
+    ghost use Rattle.std.specs.Prelude.{IfOk, OnErr, Contains};
     ghost use Rattle.std.specs.Io.{WritesAtMost};
     ghost use Rattle.std.specs.Io.KnownBytes.{WriteAppends};
     ghost use Rattle.pix_io.specs.Faults.{HasCause};
     ghost use Rattle.pix_io.specs.Streams.{TakesSome};
-    ghost use Rattle.pix_io.specs.Memory.{bytes_written, room_of, most_written, write_count, write_faults, failing_writes, sink_shown};
+    ghost use Rattle.pix_io.specs.Memory.{bytes_written, room_of, most_written, write_count};
+    ghost use Rattle.pix_io.specs.Memory.{write_faults, failing_writes, sink_shown};
 
     ghost shown = { λ s. sink_shown s };
 
     fn write(&mut self, piece: &[u8]) -> Result<usize, Failed>
         ensures bound { WritesAtMost result piece.now }
         ensures some { TakesSome result piece.now }
-        ensures bytes { WriteAppends (sink_shown self.old).bytes (sink_shown self.new).bytes result piece.now }
+        ensures bytes { WriteAppends (sink_shown self.old).bytes
+            (sink_shown self.new).bytes result piece.now }
         ensures cause { HasCause (sink_shown self.old) (sink_shown self.new) result }
 
-        ensures size { IfOk result (λ n. n ≡ min (min (most_written self.old) (length piece.now)) (room_of self.old - length (bytes_written self.old))) }
+        ensures size { IfOk result (λ n. n ≡ min (min (most_written self.old) (length piece.now))
+            (room_of self.old - length (bytes_written self.old))) }
         ensures piece { most_written self.new ≡ most_written self.old }
-        ensures failed { IsErr result ↔ Contains (failing_writes self.old) (write_count self.old) ⊎ ((0 < length piece.now) × (length (bytes_written self.old) ≡ room_of self.old)) }
-        ensures raised { OnErr result (write_faults self.new ≡ min (write_faults self.old + 1) (2 ^ 64 - 1)) }
+        ensures failed { IsErr result ↔ Contains (failing_writes self.old) (write_count self.old) ⊎
+            ((0 < length piece.now) × (length (bytes_written self.old) ≡ room_of self.old)) }
+        ensures raised { OnErr result (write_faults self.new ≡ min (write_faults self.old + 1)
+            (2 ^ 64 - 1)) }
         ensures count { write_count self.new ≡ min (write_count self.old + 1) (2 ^ 64 - 1) }
     {
         let call = self.calls;

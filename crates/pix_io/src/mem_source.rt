@@ -3,8 +3,8 @@ ghost use Rattle.std.specs.Prelude.{◌≡◌, [], ◌≤◌, vec_len};
 
 use crate::{Failed, Source};
 
-/// A source that gives the bytes of a `Vec`, at most `piece` of them a read. It fails at the reads that it is told, so
-/// that a caller's faults can be tried.
+/// A source that gives the bytes of a `Vec`, at most `piece` of them a read. It fails at the reads
+/// that it is told, so that a caller's faults can be tried.
 #[derive(Drop)]
 pub struct MemSource {
     bytes: Vec<u8>,
@@ -19,7 +19,8 @@ pub struct MemSource {
 }
 
 impl MemSource {
-    ghost use Rattle.pix_io.specs.Memory.{bytes_left, most_read, read_count, read_faults, failing_reads};
+    ghost use Rattle.pix_io.specs.Memory.{bytes_left, most_read, read_count, read_faults};
+    ghost use Rattle.pix_io.specs.Memory.{failing_reads};
 
     /// A source of these bytes. The reads whose numbers, from 0, are in `fails` answer `Failed`.
     pub fn new(bytes: Vec<u8>, piece: usize, fails: Vec<u64>) -> Self
@@ -50,23 +51,28 @@ impl MemSource {
 }
 
 impl Source for MemSource {
-    ghost use Rattle.std.specs.Prelude.{◌≡◌, ◌↔◌, ◌+◌, ◌^◌, ◌-◌, min, length, IsErr, IfOk, OnErr, Contains};
+    ghost use Rattle.std.specs.Prelude.{◌≡◌, ◌↔◌, ◌+◌, ◌^◌, ◌-◌, min, length, IsErr, IfOk, OnErr};
+    ghost use Rattle.std.specs.Prelude.{Contains};
     ghost use Rattle.std.specs.Io.{ReadsAtMost};
     ghost use Rattle.std.specs.Io.KnownBytes.{ReadConsumes};
     ghost use Rattle.pix_io.specs.Faults.{HasCause};
-    ghost use Rattle.pix_io.specs.Memory.{bytes_left, most_read, read_count, read_faults, failing_reads, source_shown};
+    ghost use Rattle.pix_io.specs.Memory.{bytes_left, most_read, read_count, read_faults};
+    ghost use Rattle.pix_io.specs.Memory.{failing_reads, source_shown};
 
     ghost shown = { λ s. source_shown s };
 
     fn read(&mut self, buf: &mut [u8]) -> Result<usize, Failed>
         ensures bound { ReadsAtMost result buf.new }
-        ensures bytes { ReadConsumes (source_shown self.old).bytes (source_shown self.new).bytes result buf.new }
+        ensures bytes { ReadConsumes (source_shown self.old).bytes
+            (source_shown self.new).bytes result buf.new }
         ensures cause { HasCause (source_shown self.old) (source_shown self.new) result }
 
-        ensures size { IfOk result (λ n. n ≡ min (min (most_read self.old) (length buf.new)) (length (bytes_left self.old))) }
+        ensures size { IfOk result (λ n. n ≡ min (min (most_read self.old) (length buf.new))
+            (length (bytes_left self.old))) }
         ensures piece { most_read self.new ≡ most_read self.old }
         ensures failed { IsErr result ↔ Contains (failing_reads self.old) (read_count self.old) }
-        ensures raised { OnErr result (read_faults self.new ≡ min (read_faults self.old + 1) (2 ^ 64 - 1)) }
+        ensures raised { OnErr result (read_faults self.new ≡ min (read_faults self.old + 1)
+            (2 ^ 64 - 1)) }
         ensures count { read_count self.new ≡ min (read_count self.old + 1) (2 ^ 64 - 1) }
     {
         let call = self.calls;

@@ -14,7 +14,8 @@ pub struct ReadSource<R: Read> {
 impl<R: Read> ReadSource<R> {
     /// A source over this reader, with no fault so far.
     pub fn new(inner: R) -> Self
-        ensures shown { ⟦<ReadSource<R> as Source>⟧.shown result ≡ record { bytes = R.remaining inner; faults = 0; made_with = [] } }
+        ensures shown { ⟦<ReadSource<R> as Source>⟧.shown result
+            ≡ record { bytes = R.remaining inner; faults = 0; made_with = [] } }
     {
         ReadSource { inner, faults: 0 }
     }
@@ -34,8 +35,8 @@ impl<R: Read> Source for ReadSource<R> {
     }
 }
 
-/// A writer as a sink. A write that takes nothing of a piece that is not empty is a fault. The bytes written are told
-/// where the writer tells them.
+/// A writer as a sink. A write that takes nothing of a piece that is not empty is a fault. The
+/// bytes written are told where the writer tells them.
 #[derive(Drop)]
 pub struct WriteSink<W: Write> {
     inner: W,
@@ -45,7 +46,8 @@ pub struct WriteSink<W: Write> {
 impl<W: Write> WriteSink<W> {
     /// A sink over this writer, with no fault so far.
     pub fn new(inner: W) -> Self
-        ensures shown { ⟦<WriteSink<W> as Sink>⟧.shown result ≡ record { bytes = W.contents inner; faults = 0; made_with = [] } }
+        ensures shown { ⟦<WriteSink<W> as Sink>⟧.shown result
+            ≡ record { bytes = W.contents inner; faults = 0; made_with = [] } }
     {
         WriteSink { inner, faults: 0 }
     }

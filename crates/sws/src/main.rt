@@ -7,7 +7,8 @@ use std::rt::Env;
 use std::{env, io};
 use sws_run::{OpenGate, run_sws};
 
-// How the program ends where the system does not give its words: for want of memory, or for another cause.
+// How the program ends where the system does not give its words: for want of memory, or for another
+// cause.
 const NO_MEMORY: u8 = 7;
 
 const NO_WORDS: u8 = 10;

@@ -1,5 +1,6 @@
 -- A run that converts nothing: its words are refused, or it lists the formats.
-use Rattle.std.proofs.Common.{◌≡◌, true, false, Bool, ℕ, ◌<◌, List, [], ◌++◌, length, take, Result, Ok, Err, refl, sym, ap, ◌∙◌, subst, arith, append-nil, nat_le, if◌then◌else◌}
+use Rattle.std.proofs.Common.{◌≡◌, true, false, Bool, ℕ, ◌<◌, List, [], ◌++◌, length, take, Result, Ok, Err, refl, sym, ap, ◌∙◌, subst}
+use Rattle.std.proofs.Common.{arith, append-nil, nat_le, if◌then◌else◌}
 use Rattle.pix_io.specs.Shown.{Shown}
 use Rattle.pix_io.specs.Faults.{Rose}
 use Rattle.pix_io.specs.Streams.{Writes, WritesPart}
@@ -27,9 +28,11 @@ refusal_answer refusal source sink is = record {
 
 pub refused_answer : (asked : Result Request Ended) (refusal : Ended) (source sink : Shown) → IsRefusal refusal → asked ≡ Err refusal
     → GivesAnswer asked source source sink sink refusal
-refused_answer asked refusal source sink is same = subst (λ a. GivesAnswer a source source sink sink refusal) (sym same) (refusal_answer refusal source sink is)
+refused_answer asked refusal source sink is same = subst (λ a. GivesAnswer a source source sink sink refusal) (sym same)
+    (refusal_answer refusal source sink is)
 
-pub list_answer : (source sink sink' : Shown) → Writes sink sink' list_text → GivesAnswer (Ok request.List) source source sink sink' (Done 0)
+pub list_answer : (source sink sink' : Shown) → Writes sink sink' list_text
+    → GivesAnswer (Ok request.List) source source sink sink' (Done 0)
 unfolding output_by ending_by
 list_answer source sink sink' wrote = record {
   words = λ _. refl;

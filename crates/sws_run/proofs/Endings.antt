@@ -1,7 +1,8 @@
 -- Facts about endings.
 use Rattle.std.proofs.Common.{◌≡◌, ℕ}
 use Rattle.sws_run.specs.declared.ended.Ended.{Ended}
-use Rattle.sws_run.specs.declared.ended.Ended.TheVariants.{Done, ReadFault, WriteFault, OutOfMemory, Stream, Usage, Format, PaletteTarget, TooManyFrames}
+use Rattle.sws_run.specs.declared.ended.Ended.TheVariants.{Done, ReadFault, WriteFault, OutOfMemory, Stream, Usage, Format, PaletteTarget}
+use Rattle.sws_run.specs.declared.ended.Ended.TheVariants.{TooManyFrames}
 use Rattle.sws_run.specs.Ending.{IsRefusal, IfDone, IfReadFault, IfWriteFault, IfOutOfMemory, UnlessReadFault, UnlessWriteFault}
 
 pub done_map : (ended : Ended) (P Q : Type 0) → (P → Q) → IfDone ended P → IfDone ended Q

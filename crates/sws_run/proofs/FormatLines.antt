@@ -7,7 +7,8 @@ use Rattle.desc_table.specs.Format.{format_at, format_count, formats, no_format}
 use Rattle.sws_run.specs.FormatList.{format_line, lines_text, list_text}
 
 -- one format more
-pub next_line : (row : ℕ) → row < format_count → lines_text (take (row + 1) formats) ≡ lines_text (take row formats) ++ format_line (format_at row)
+pub next_line : (row : ℕ) → row < format_count → lines_text (take (row + 1) formats) ≡ lines_text (take row formats) ++ format_line
+    (format_at row)
 unfolding format_at
 next_line row below =
     ap lines_text (take_more formats row no_format below)

@@ -1,5 +1,7 @@
 -- A frame behind its line, as it is read.
-use Rattle.std.proofs.Common.{◌≡◌, true, false, Bool, ℕ, zero, suc, ◌+◌, ◌-◌, ◌<◌, ◌≤◌, List, [], ◌∷◌, ◌++◌, length, refl, sym, ap, ◌∙◌, arith, subst, take, drop, length-append, length-drop, length-take-le, take_at, drop_at, Result, Ok, Err, IfOk, OnErr, if◌then◌else◌, IfSome, append-nil, nat_le, nat_eq, nat_lt}
+use Rattle.std.proofs.Common.{◌≡◌, true, false, Bool, ℕ, zero, suc, ◌+◌, ◌-◌, ◌<◌, ◌≤◌, List, [], ◌∷◌, ◌++◌, length, refl, sym, ap, ◌∙◌}
+use Rattle.std.proofs.Common.{arith, subst, take, drop, length-append, length-drop, length-take-le, take_at, drop_at, Result, Ok, Err, IfOk}
+use Rattle.std.proofs.Common.{OnErr, if◌then◌else◌, IfSome, append-nil, nat_le, nat_eq, nat_lt}
 use Rattle.std.proofs.lemmas.Bool.Decides.{nat_tests}
 use Rattle.std.specs.declared.option.Option.{Option}
 use Rattle.std.specs.declared.option.Option.TheVariants.{None, Some}
@@ -29,7 +31,8 @@ use Rattle.sws_run.proofs.Told.{some_map}
 
 -- ---- pieces
 
-piece_front : (form : Form) (size : ℕ) (bytes : List ℕ) (front : Result (Option ℕ) StreamFault) → front_cut form bytes ≡ front → piece_cut form size bytes ≡ piece_behind size bytes front
+piece_front : (form : Form) (size : ℕ) (bytes : List ℕ) (front : Result (Option ℕ) StreamFault) → front_cut form bytes ≡ front
+    → piece_cut form size bytes ≡ piece_behind size bytes front
 unfolding piece_cut
 piece_front form size bytes front is = ap (piece_behind size bytes) is
 
@@ -41,12 +44,14 @@ piece_few : (front size : ℕ) (bytes : List ℕ) → length bytes < front + siz
 piece_few front size bytes short = grind (arith, nat_tests, short)
 
 -- a whole frame behind its line
-pub whole_behind : (form : Form) (front : ℕ) (bytes mid rest frame : List ℕ) → front_cut form bytes ≡ Ok (Some front) → IsBehind front bytes mid → mid ≡ frame ++ rest
+pub whole_behind : (form : Form) (front : ℕ) (bytes mid rest frame : List ℕ) → front_cut form bytes ≡ Ok (Some front)
+    → IsBehind front bytes mid → mid ≡ frame ++ rest
     → TakesFrame form frame bytes rest
 whole_behind form front bytes mid rest frame is behind same =
     let size : length mid ≡ length frame + length rest = ap length same ∙ length-append frame rest in
     let fits : front + length frame ≤ length bytes = omega (arith, behind.within, ap length behind.left, length-drop front bytes, size) in
-    let taken : take (length frame) (drop front bytes) ≡ frame = ap (take (length frame)) (sym behind.left ∙ same) ∙ take_at frame rest (length frame) refl in
+    let taken : take (length frame) (drop front bytes) ≡ frame = ap (take (length frame)) (sym behind.left ∙ same)
+    ∙ take_at frame rest (length frame) refl in
     let left : rest ≡ drop (length frame) mid = sym (ap (drop (length frame)) same ∙ drop_at frame rest (length frame) refl) in
     let here : IsBehind (length frame) mid rest = record { within = omega (arith, size); left = left } in (
       front + length frame,
@@ -56,7 +61,8 @@ whole_behind form front bytes mid rest frame is behind same =
     )
 
 -- the input ends in a frame behind its line
-pub short_behind : (form : Form) (front size : ℕ) (bytes mid : List ℕ) → front_cut form bytes ≡ Ok (Some front) → IsBehind front bytes mid → length mid < size
+pub short_behind : (form : Form) (front size : ℕ) (bytes mid : List ℕ) → front_cut form bytes ≡ Ok (Some front) → IsBehind front bytes mid
+    → length mid < size
     → piece_cut form size bytes ≡ Faulty Truncated
 short_behind form front size bytes mid is behind short =
     piece_front form size bytes (Ok (Some front)) is
@@ -67,12 +73,15 @@ short_if : (n front size : ℕ) (bytes : List ℕ) → n < front + size → (b :
 short_if n front size bytes short true = short
 short_if n front size bytes short false = tt
 
-short_piece : (form : Form) (n front size : ℕ) (bytes : List ℕ) → front_cut form bytes ≡ Ok (Some front) → n < front + size → IsShort n (piece_cut form size bytes)
+short_piece : (form : Form) (n front size : ℕ) (bytes : List ℕ) → front_cut form bytes ≡ Ok (Some front) → n < front + size
+    → IsShort n (piece_cut form size bytes)
 short_piece form n front size bytes is short =
-    subst (IsShort n) (sym (piece_front form size bytes (Ok (Some front)) is)) (short_if n front size bytes short (nat_le (front + size) (length bytes)))
+    subst (IsShort n) (sym (piece_front form size bytes (Ok (Some front)) is))
+    (short_if n front size bytes short (nat_le (front + size) (length bytes)))
 
 -- a part of a frame behind its line
-pub part_behind : (form : Form) (front n : ℕ) (bytes mid rest part : List ℕ) (size : ℕ) → front_cut form bytes ≡ Ok (Some front) → IsBehind front bytes mid → mid ≡ part ++ rest
+pub part_behind : (form : Form) (front n : ℕ) (bytes mid rest part : List ℕ) (size : ℕ) → front_cut form bytes ≡ Ok (Some front)
+    → IsBehind front bytes mid → mid ≡ part ++ rest
     → length part ≡ n → n < size → TakesPiece form size bytes rest
 part_behind form front n bytes mid rest part size is behind same long short =
     let total : length mid ≡ length part + length rest = ap length same ∙ length-append part rest in
@@ -104,9 +113,11 @@ raw_part_at : (part bytes rest : List ℕ) (n size : ℕ) → bytes ≡ part ++ 
 unfolding piece_cut
 raw_part_at part [] rest n size same long short =
     let none : n ≡ 0 = omega (arith, ap length same, length-append part rest, long) in
-    let empty : rest ≡ [] = sym (drop_at part rest (length part) refl) ∙ ap (drop (length part)) (sym same) ∙ (let e : length part ≡ 0 = omega (arith, long, none) in rw e refl) in
+    let empty : rest ≡ [] = sym (drop_at part rest (length part) refl) ∙ ap (drop (length part)) (sym same)
+    ∙ (let e : length part ≡ 0 = omega (arith, long, none) in rw e refl) in
     (0, record { within = omega arith; left = empty }, tt)
-raw_part_at part (byte ∷ bytes) rest n size same long short = part_behind Raw 0 n (byte ∷ bytes) (byte ∷ bytes) rest part size refl (all_left (byte ∷ bytes)) same long short
+raw_part_at part (byte ∷ bytes) rest n size same long short = part_behind Raw 0 n (byte ∷ bytes) (byte ∷ bytes) rest part size refl
+    (all_left (byte ∷ bytes)) same long short
 
 pub raw_part : (part bytes rest : List ℕ) (n size : ℕ) → bytes ≡ part ++ rest → length part ≡ n → n < size → TakesPiece Raw size bytes rest
 raw_part part bytes rest n size same long short = raw_part_at part bytes rest n size same long short
@@ -114,27 +125,32 @@ raw_part part bytes rest n size same long short = raw_part_at part bytes rest n 
 -- ---- frames of a stream
 
 -- a frame line was taken
-pub line_front : (bytes mid : List ℕ) (size : ℕ) → frame_line_cut bytes ≡ Ok (Some size) → bytes ≡ take size bytes ++ mid → IsBehind size bytes mid
+pub line_front : (bytes mid : List ℕ) (size : ℕ) → frame_line_cut bytes ≡ Ok (Some size) → bytes ≡ take size bytes ++ mid
+    → IsBehind size bytes mid
 line_front bytes mid size is same =
     let fits = (frame_line_cut-size bytes size is).1 in
     record { within = fits; left = sym (ap (drop size) same ∙ drop_at (take size bytes) mid size (length-take-le size bytes fits)) }
 
-pub line_fault_piece : (size : ℕ) (bytes : List ℕ) (fault : StreamFault) → frame_line_cut bytes ≡ Err fault → piece_cut Y4m size bytes ≡ Faulty fault
+pub line_fault_piece : (size : ℕ) (bytes : List ℕ) (fault : StreamFault) → frame_line_cut bytes ≡ Err fault
+    → piece_cut Y4m size bytes ≡ Faulty fault
 line_fault_piece size bytes fault is = piece_front Y4m size bytes (Err fault) is
 
-open_piece : (front rest : List ℕ) (size : ℕ) (cut : Result (Option ℕ) StreamFault) → list_any is_newline front ≡ false → frame_line_cut (front ++ rest) ≡ cut
+open_piece : (front rest : List ℕ) (size : ℕ) (cut : Result (Option ℕ) StreamFault) → list_any is_newline front ≡ false
+    → frame_line_cut (front ++ rest) ≡ cut
     → IsShort (length front) (piece_behind size (front ++ rest) cut)
 open_piece front rest size (Err fault) none is = tt
 open_piece front rest size (Ok None) none is = tt
 open_piece front rest size (Ok (Some line)) none is =
-    short_if (length front) line size (front ++ rest) (let below = frame_line_cut-unfinished front rest line none is in omega (arith, below)) (nat_le (line + size) (length (front ++ rest)))
+    short_if (length front) line size (front ++ rest) (let below = frame_line_cut-unfinished front rest line none is in omega
+    (arith, below)) (nat_le (line + size) (length (front ++ rest)))
 
 -- a part of a frame line was taken
 pub open_part : (front rest : List ℕ) (size : ℕ) → list_any is_newline front ≡ false → TakesPiece Y4m size (front ++ rest) rest
 open_part front rest size none = (
   length front,
   record { within = omega (arith, length-append front rest); left = sym (drop_at front rest (length front) refl) },
-  subst (IsShort (length front)) (sym (piece_front Y4m size (front ++ rest) (frame_line_cut (front ++ rest)) refl)) (open_piece front rest size (frame_line_cut (front ++ rest)) none refl),
+  subst (IsShort (length front)) (sym (piece_front Y4m size (front ++ rest) (frame_line_cut (front ++ rest)) refl))
+      (open_piece front rest size (frame_line_cut (front ++ rest)) none refl),
 )
 
 -- the line in front of a frame was taken
@@ -143,7 +159,8 @@ pub record HasLine (bytes mid : List ℕ) : Type 0 where
   pub is : frame_line_cut bytes ≡ Ok (Some size)
   pub behind : IsBehind size bytes mid
 
-line_told_at : (a b : Option (List ℕ)) → IfSome a (λ bytes. (size : ℕ) × (frame_line_cut bytes ≡ Ok (Some size)) × Consumes a b (take size bytes)) → IfTold a b HasLine
+line_told_at : (a b : Option (List ℕ)) → IfSome a (λ bytes. (size : ℕ) × (frame_line_cut bytes ≡ Ok (Some size)) × Consumes a b
+    (take size bytes)) → IfTold a b HasLine
 line_told_at None b p = tt
 line_told_at (Some x) None p = absurd p.2
 line_told_at (Some x) (Some y) p = record { size = p.0; is = p.1; behind = line_front x y p.0 p.1 p.2 }
@@ -152,13 +169,17 @@ pub line_told : (a b : Shown) → TakesFrameLine a b → IfTold a.bytes b.bytes 
 line_told a b = line_told_at a.bytes b.bytes
 
 -- the fault of a line is that of the frame
-pub line_piece : (a : Option (List ℕ)) (size : ℕ) (end : LineEnd) → IfSome (line_fault end) (λ fault. IfSome a (λ bytes. frame_line_cut bytes ≡ Err fault))
+pub line_piece : (a : Option (List ℕ)) (size : ℕ) (end : LineEnd)
+    → IfSome (line_fault end) (λ fault. IfSome a (λ bytes. frame_line_cut bytes ≡ Err fault))
     → IfSome (line_fault end) (λ fault. IfSome a (λ bytes. piece_cut Y4m size bytes ≡ Faulty fault))
 line_piece a size end p =
-    some_map (line_fault end) (λ fault. IfSome a (λ bytes. frame_line_cut bytes ≡ Err fault)) (λ fault. IfSome a (λ bytes. piece_cut Y4m size bytes ≡ Faulty fault))
-    (λ fault q. some_map a (λ bytes. frame_line_cut bytes ≡ Err fault) (λ bytes. piece_cut Y4m size bytes ≡ Faulty fault) (λ bytes. line_fault_piece size bytes fault) q) p
+    some_map (line_fault end) (λ fault. IfSome a (λ bytes. frame_line_cut bytes ≡ Err fault))
+    (λ fault. IfSome a (λ bytes. piece_cut Y4m size bytes ≡ Faulty fault))
+    (λ fault q. some_map a (λ bytes. frame_line_cut bytes ≡ Err fault) (λ bytes. piece_cut Y4m size bytes ≡ Faulty fault)
+    (λ bytes. line_fault_piece size bytes fault) q) p
 
-open_told_at : (a b : Option (List ℕ)) (front : List ℕ) (size : ℕ) → list_any is_newline front ≡ false → Consumes a b front → IfTold a b (TakesPiece Y4m size)
+open_told_at : (a b : Option (List ℕ)) (front : List ℕ) (size : ℕ) → list_any is_newline front ≡ false → Consumes a b front
+    → IfTold a b (TakesPiece Y4m size)
 open_told_at None b front size none p = tt
 open_told_at (Some x) None front size none p = absurd p
 open_told_at (Some x) (Some y) front size none p = subst (λ bytes. TakesPiece Y4m size bytes y) (sym p) (open_part front y size none)
@@ -171,7 +192,8 @@ open_told T U a b size line.ReadFault p = open_told_at a.bytes b.bytes p.0 size 
 
 -- ---- the header of a stream
 
-header_told_at : (a b : Option (List ℕ)) (h : Header) → IfSome a (λ bytes. (size : ℕ) × (header_cut bytes ≡ Ok (record { header = h; size = size })) × Consumes a b (take size bytes))
+header_told_at : (a b : Option (List ℕ)) (h : Header) → IfSome a
+    (λ bytes. (size : ℕ) × (header_cut bytes ≡ Ok (record { header = h; size = size })) × Consumes a b (take size bytes))
     → IfTold a b (TakesHeader input.Y4m h)
 header_told_at None b h p = tt
 header_told_at (Some x) None h p = absurd p.2
@@ -180,15 +202,18 @@ header_told_at (Some x) (Some y) h p =
     (p.0, p.1, record { within = fits; left = sym (ap (drop p.0) p.2 ∙ drop_at (take p.0 x) y p.0 (length-take-le p.0 x fits)) })
 
 -- the header's line was taken
-pub header_told : (a b : Shown) (result : Result Header HeaderEnd) → IfOk result (reading.TakesHeader a b) → IfOk result (λ h. IfTold a.bytes b.bytes (TakesHeader input.Y4m h))
+pub header_told : (a b : Shown) (result : Result Header HeaderEnd) → IfOk result (reading.TakesHeader a b)
+    → IfOk result (λ h. IfTold a.bytes b.bytes (TakesHeader input.Y4m h))
 header_told a b (Ok h) p = header_told_at a.bytes b.bytes h p
 header_told a b (Err end) p = tt
 
-open_header_at : (front rest : List ℕ) (cut : Result HeaderLine StreamFault) → list_any is_newline front ≡ false → header_cut (front ++ rest) ≡ cut → IsShortOf (length front) cut
+open_header_at : (front rest : List ℕ) (cut : Result HeaderLine StreamFault) → list_any is_newline front ≡ false
+    → header_cut (front ++ rest) ≡ cut → IsShortOf (length front) cut
 open_header_at front rest (Err fault) none is = tt
 open_header_at front rest (Ok line) none is = header_cut-unfinished front rest line none is
 
-open_header : (a b : Option (List ℕ)) (front : List ℕ) → list_any is_newline front ≡ false → Consumes a b front → IfTold a b (TakesHeaderPart input.Y4m)
+open_header : (a b : Option (List ℕ)) (front : List ℕ) → list_any is_newline front ≡ false → Consumes a b front
+    → IfTold a b (TakesHeaderPart input.Y4m)
 open_header None b front none p = tt
 open_header (Some x) None front none p = absurd p
 open_header (Some x) (Some y) front none p =
@@ -199,7 +224,8 @@ open_header (Some x) (Some y) front none p =
     )
 
 -- a read of the header failed
-pub header_open : (a b : Shown) (result : Result Header HeaderEnd) → OnErr (header_reads result) (TakesOpen a b) → OnErr (header_reads result) (IfTold a.bytes b.bytes (TakesHeaderPart input.Y4m))
+pub header_open : (a b : Shown) (result : Result Header HeaderEnd) → OnErr (header_reads result) (TakesOpen a b)
+    → OnErr (header_reads result) (IfTold a.bytes b.bytes (TakesHeaderPart input.Y4m))
 header_open a b (Ok h) p = tt
 header_open a b (Err (header.Stream fault)) p = tt
 header_open a b (Err header.ReadFault) p = open_header a.bytes b.bytes p.0 p.1 p.2

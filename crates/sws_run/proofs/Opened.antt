@@ -34,17 +34,30 @@ frame-some desc width height valid wide high =
 pub opening_some : (header : Header) → IsSoundOpening header → 0 < source_length header
 unfolding source_length
 opening_some header sound =
-    frame-some (desc_of header.format) header.width header.height (valid_at header.format sound.format) (omega (arith, sound.frame.width_least)) (omega (arith, sound.frame.height_least))
+    frame-some (desc_of header.format) header.width header.height (valid_at header.format sound.format)
+    (omega (arith, sound.frame.width_least)) (omega (arith, sound.frame.height_least))
 
-pub pair_is_plannable : (conversion : Conversion) (header : Header) → IsSoundConversion conversion → IsSoundOpening header → IsPlannable (pair_of conversion header)
+pub pair_is_plannable : (conversion : Conversion) (header : Header) → IsSoundConversion conversion → IsSoundOpening header
+    → IsPlannable (pair_of conversion header)
 unfolding pair_of
 pair_is_plannable conversion header sound opening =
     table_pairs_have_plans (record { from = source_side conversion header; to = target_side conversion; dither = conversion.dither })
-    (record { id = header.format; known = opening.format; desc = refl; matrix = record { name = sound.source_matrix.0; found = sound.source_matrix.1 } })
-    (record { id = conversion.target; known = sound.target; desc = refl; matrix = record { name = sound.target_matrix.0; found = sound.target_matrix.1 } })
+    (record {
+      id = header.format;
+      known = opening.format;
+      desc = refl;
+      matrix = record { name = sound.source_matrix.0; found = sound.source_matrix.1 };
+    })
+    (record {
+      id = conversion.target;
+      known = sound.target;
+      desc = refl;
+      matrix = record { name = sound.target_matrix.0; found = sound.target_matrix.1 };
+    })
     sound.dither
 
-pub pair_is_plain : (conversion : Conversion) (header : Header) → IsSoundConversion conversion → (pair_of conversion header).to.desc.palette ≡ false
+pub pair_is_plain : (conversion : Conversion) (header : Header) → IsSoundConversion conversion
+    → (pair_of conversion header).to.desc.palette ≡ false
 unfolding pair_of
 pair_is_plain conversion header sound = sound.plain
 
@@ -54,6 +67,7 @@ unfolding source_length pair_of
 source_length_is conversion header converter is = rw (is.pair, is.width, is.height) refl
 
 pub target_length_is : (conversion : Conversion) (header : Header) (converter : Converter) → IsConverterOf conversion header converter
-    → frame_length (desc_of conversion.target) header.width header.height ≡ frame_length converter.plan.pair.to.desc converter.width converter.height
+    → frame_length (desc_of conversion.target) header.width header.height
+    ≡ frame_length converter.plan.pair.to.desc converter.width converter.height
 unfolding pair_of
 target_length_is conversion header converter is = rw (is.pair, is.width, is.height) refl

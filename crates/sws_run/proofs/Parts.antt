@@ -1,5 +1,6 @@
 -- A list of parts, cut at its element k.
-use Rattle.std.proofs.Common.{◌≡◌, ℕ, zero, suc, ◌+◌, ◌-◌, ◌<◌, ◌≤◌, List, [], ◌∷◌, ◌++◌, length, refl, sym, ap, ◌∙◌, arith, subst, map, take, drop, append-nil, append_assoc, length-append, length-drop, length-take-le, take-append-drop}
+use Rattle.std.proofs.Common.{◌≡◌, ℕ, zero, suc, ◌+◌, ◌-◌, ◌<◌, ◌≤◌, List, [], ◌∷◌, ◌++◌, length, refl, sym, ap, ◌∙◌, arith, subst, map}
+use Rattle.std.proofs.Common.{take, drop, append-nil, append_assoc, length-append, length-drop, length-take-le, take-append-drop}
 use Rattle.std.proofs.lemmas.List.{drop-drop, take-append-le}
 use Rattle.std.proofs.Math.Seq.{take-append-add, take-add}
 use Rattle.std.specs.List.{sum_by, concat}
@@ -36,14 +37,18 @@ pub concat-next : (k : ℕ) (x : List ℕ) (xs all : List (List ℕ)) → Stands
 concat-next k x xs all at =
     ap concat at.front ∙ concat-append (take k all) (x ∷ []) ∙ ap (λ l. concat (take k all) ++ l) (append-nil x)
 
-pub sum-next : {X : Type 0} (f : X → ℕ) (k : ℕ) (x : X) (xs all : List X) → StandsAt k x xs all → sum_by f (take (k + 1) all) ≡ sum_by f (take k all) + f x
+pub sum-next : {X : Type 0} (f : X → ℕ) (k : ℕ) (x : X) (xs all : List X) → StandsAt k x xs all
+    → sum_by f (take (k + 1) all) ≡ sum_by f (take k all) + f x
 sum-next f k x xs all at =
-    ap (sum_by f) at.front ∙ sum_by-append f (take k all) (x ∷ []) ∙ ap (λ n. sum_by f (take k all) + n) (sum_by-cons f x [] ∙ (let e : f x + 0 ≡ f x = omega arith in e))
+    ap (sum_by f) at.front ∙ sum_by-append f (take k all) (x ∷ [])
+    ∙ ap (λ n. sum_by f (take k all) + n) (sum_by-cons f x [] ∙ (let e : f x + 0 ≡ f x = omega arith in e))
 
 -- the parts that lie wholly in the first k and fewer bytes than the next has
-pub whole-at : {X : Type 0} (f : X → ℕ) (k m : ℕ) (all : List X) → k ≤ length all → IsBelowFirst f m (drop k all) → whole_within f (sum_by f (take k all) + m) all ≡ k
+pub whole-at : {X : Type 0} (f : X → ℕ) (k m : ℕ) (all : List X) → k ≤ length all → IsBelowFirst f m (drop k all)
+    → whole_within f (sum_by f (take k all) + m) all ≡ k
 whole-at f k m all within below =
-    ap (whole_within f (sum_by f (take k all) + m)) (sym (take-append-drop k all)) ∙ whole_at f (take k all) (drop k all) m below ∙ length-take-le k all within
+    ap (whole_within f (sum_by f (take k all) + m)) (sym (take-append-drop k all)) ∙ whole_at f (take k all) (drop k all) m below
+    ∙ length-take-le k all within
 
 -- a front that ends in part k
 pub record EndsIn (k m : ℕ) (x : List ℕ) (all : List (List ℕ)) : Type 0 where

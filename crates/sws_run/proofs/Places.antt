@@ -1,12 +1,14 @@
 -- A place in the input behind its first k frames.
-use Rattle.std.proofs.Common.{◌≡◌, ℕ, zero, suc, ◌+◌, ◌-◌, ◌<◌, ◌≤◌, List, [], ◌∷◌, ◌++◌, length, refl, sym, ap, ◌∙◌, arith, subst, map, take, drop, length-drop, add-one}
+use Rattle.std.proofs.Common.{◌≡◌, ℕ, zero, suc, ◌+◌, ◌-◌, ◌<◌, ◌≤◌, List, [], ◌∷◌, ◌++◌, length, refl, sym, ap, ◌∙◌, arith, subst, map}
+use Rattle.std.proofs.Common.{take, drop, length-drop, add-one}
 use Rattle.std.proofs.lemmas.List.{drop-drop}
 use Rattle.std.specs.List.{sum_by}
 use Rattle.sws_words.specs.declared.task.Form.{Form}
 use Rattle.sws_words.specs.declared.task.Form.TheVariants.{Raw, Y4m}
 use Rattle.y4m_io.specs.declared.fault.StreamFault.{StreamFault}
 use Rattle.y4m_io.specs.FrameLine.{frame_line_cut}
-use Rattle.sws_run.specs.Cut.{Frame, Frames, Piece, Nothing, Whole, Faulty, End, Clean, TooMany, Broken, piece_cut, frames_cut, with_frame, last_end, whole_within}
+use Rattle.sws_run.specs.Cut.{Frame, Frames, Piece, Nothing, Whole, Faulty, End, Clean, TooMany, Broken, piece_cut, frames_cut, with_frame}
+use Rattle.sws_run.specs.Cut.{last_end, whole_within}
 use Rattle.sws_run.specs.Frames.{IsBehind, IsShort, TakesPiece}
 use Rattle.sws_run.proofs.Parts.{StandsAt, stands_at, ends_at, sum-next, whole-at}
 use Rattle.sws_run.proofs.Whole.{IsBelowFirst}
@@ -62,8 +64,10 @@ at_start form size most bytes =
     }
 
 -- what the cut at this place begins with
-cut_here : (form : Form) (size most k : ℕ) (bytes rest : List ℕ) (cut : Frames) → k < most → frames_cut form size (suc (most - (k + 1))) rest ≡ cut
-    → IsAt form size most k bytes rest → (drop k (frames_cut form size most bytes).frames ≡ cut.frames) × ((frames_cut form size most bytes).end ≡ cut.end)
+cut_here : (form : Form) (size most k : ℕ) (bytes rest : List ℕ) (cut : Frames) → k < most
+    → frames_cut form size (suc (most - (k + 1))) rest ≡ cut
+    → IsAt form size most k bytes rest → (drop k (frames_cut form size most bytes).frames ≡ cut.frames) ×
+    ((frames_cut form size most bytes).end ≡ cut.end)
 cut_here form size most k bytes rest cut more is at =
     let next : most - k ≡ suc (most - (k + 1)) = omega arith in
     let here : frames_cut form size (most - k) rest ≡ cut = ap (λ n. frames_cut form size n rest) next ∙ is in (
@@ -72,13 +76,16 @@ cut_here form size most k bytes rest cut more is at =
     )
 
 -- a frame stands there
-pub at_frame : (form : Form) (size most k : ℕ) (bytes rest : List ℕ) (frame : Frame) → k < most → IsAt form size most k bytes rest → piece_cut form size rest ≡ Whole frame
+pub at_frame : (form : Form) (size most k : ℕ) (bytes rest : List ℕ) (frame : Frame) → k < most → IsAt form size most k bytes rest
+    → piece_cut form size rest ≡ Whole frame
     → StandsAt k frame (frames_cut form size (most - (k + 1)) (drop frame.size rest)).frames (frames_cut form size most bytes).frames
 at_frame form size most k bytes rest frame more at is =
     let here = cut_here form size most k bytes rest _ more (cut_frame form size (most - (k + 1)) rest frame is) at in
-    stands_at k frame (frames_cut form size (most - (k + 1)) (drop frame.size rest)).frames (frames_cut form size most bytes).frames at.within here.0
+    stands_at k frame (frames_cut form size (most - (k + 1)) (drop frame.size rest)).frames
+    (frames_cut form size most bytes).frames at.within here.0
 
-pub at_next : (form : Form) (size most k : ℕ) (bytes rest rest' : List ℕ) (frame : Frame) → k < most → IsAt form size most k bytes rest → piece_cut form size rest ≡ Whole frame
+pub at_next : (form : Form) (size most k : ℕ) (bytes rest rest' : List ℕ) (frame : Frame) → k < most → IsAt form size most k bytes rest
+    → piece_cut form size rest ≡ Whole frame
     → IsBehind frame.size rest rest' → IsAt form size most (k + 1) bytes rest'
 at_next form size most k bytes rest rest' frame more at is behind =
     let stands = at_frame form size most k bytes rest frame more at is in
@@ -97,16 +104,19 @@ pub at_end : (form : Form) (size most k : ℕ) (bytes rest : List ℕ) (end : En
     → frames_cut form size (suc (most - (k + 1))) rest ≡ record { frames = []; end = end }
     → (length (frames_cut form size most bytes).frames ≡ k) × ((frames_cut form size most bytes).end ≡ end)
 at_end form size most k bytes rest end more at is =
-    let here = cut_here form size most k bytes rest _ more is at in (ends_at k (frames_cut form size most bytes).frames at.within here.0, here.1)
+    let here = cut_here form size most k bytes rest _ more is at in
+    (ends_at k (frames_cut form size most bytes).frames at.within here.0, here.1)
 
 pub at_nothing : (form : Form) (size most k : ℕ) (bytes rest : List ℕ) → k < most → IsAt form size most k bytes rest → rest ≡ []
     → (length (frames_cut form size most bytes).frames ≡ k) × ((frames_cut form size most bytes).end ≡ Clean)
 at_nothing form size most k bytes rest more at none =
     at_end form size most k bytes rest Clean more at (cut_nothing form size (most - (k + 1)) rest (nothing_left form size rest none))
 
-pub at_faulty : (form : Form) (size most k : ℕ) (bytes rest : List ℕ) (fault : StreamFault) → k < most → IsAt form size most k bytes rest → piece_cut form size rest ≡ Faulty fault
+pub at_faulty : (form : Form) (size most k : ℕ) (bytes rest : List ℕ) (fault : StreamFault) → k < most → IsAt form size most k bytes rest
+    → piece_cut form size rest ≡ Faulty fault
     → (length (frames_cut form size most bytes).frames ≡ k) × ((frames_cut form size most bytes).end ≡ Broken fault)
-at_faulty form size most k bytes rest fault more at is = at_end form size most k bytes rest (Broken fault) more at (cut_faulty form size (most - (k + 1)) rest fault is)
+at_faulty form size most k bytes rest fault more at is = at_end form size most k bytes rest (Broken fault) more at
+    (cut_faulty form size (most - (k + 1)) rest fault is)
 
 -- no frame more is taken
 pub at_last : (form : Form) (size most : ℕ) (bytes rest : List ℕ) → IsAt form size most most bytes rest
@@ -128,18 +138,23 @@ below_piece form size most n rest (Whole frame) is short = rw (cut_frame form si
 below_piece form size most n rest (Faulty fault) is short = rw (cut_faulty form size most rest fault is) tt
 
 -- the frames that lie wholly in what was taken are those behind
-pub at_part : (form : Form) (size most k n : ℕ) (bytes rest : List ℕ) → k < most → IsAt form size most k bytes rest → IsShort n (piece_cut form size rest)
-    → whole_within (λ frame. frame.size) (sum_by (λ frame. frame.size) (take k (frames_cut form size most bytes).frames) + n) (frames_cut form size most bytes).frames ≡ k
+pub at_part : (form : Form) (size most k n : ℕ) (bytes rest : List ℕ) → k < most → IsAt form size most k bytes rest
+    → IsShort n (piece_cut form size rest)
+    → whole_within (λ frame. frame.size) (sum_by (λ frame. frame.size) (take k (frames_cut form size most bytes).frames) + n)
+    (frames_cut form size most bytes).frames ≡ k
 at_part form size most k n bytes rest more at short =
     let next : suc (most - (k + 1)) ≡ most - k = omega arith in
     let below = below_piece form size (most - (k + 1)) n rest (piece_cut form size rest) refl short in
     let here = ap (λ m. (frames_cut form size m rest).frames) next ∙ at.frames in
-    whole-at (λ frame. frame.size) k n (frames_cut form size most bytes).frames at.within (subst (IsBelowFirst (λ frame. frame.size) n) here below)
+    whole-at (λ frame. frame.size) k n (frames_cut form size most bytes).frames at.within
+    (subst (IsBelowFirst (λ frame. frame.size) n) here below)
 
 pub at_million : (form : Form) (size most : ℕ) (bytes rest : List ℕ) → IsAt form size most most bytes rest
-    → whole_within (λ frame. frame.size) (sum_by (λ frame. frame.size) (take most (frames_cut form size most bytes).frames) + 0) (frames_cut form size most bytes).frames ≡ most
+    → whole_within (λ frame. frame.size) (sum_by (λ frame. frame.size) (take most (frames_cut form size most bytes).frames) + 0)
+    (frames_cut form size most bytes).frames ≡ most
 at_million form size most bytes rest at =
     let none : most - most ≡ 0 = omega arith in
     let here : drop most (frames_cut form size most bytes).frames ≡ [] =
     sym at.frames ∙ ap (λ n. (frames_cut form size n rest).frames) none ∙ ap (λ c. c.frames) (cut_last form size rest) in
-    whole-at (λ frame. frame.size) most 0 (frames_cut form size most bytes).frames at.within (subst (IsBelowFirst (λ frame. frame.size) 0) (sym here) tt)
+    whole-at (λ frame. frame.size) most 0 (frames_cut form size most bytes).frames at.within
+    (subst (IsBelowFirst (λ frame. frame.size) 0) (sym here) tt)

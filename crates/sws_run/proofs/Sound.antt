@@ -1,5 +1,6 @@
 -- What words ask for is sound.
-use Rattle.std.proofs.Common.{◌≡◌, true, false, Bool, ℕ, ◌<◌, not, List, map, Result, Ok, Err, IfOk, IfSome, if◌then◌else◌, refl, sym, ap, ◌∙◌, subst, arith, nat_lt, slice_index_or}
+use Rattle.std.proofs.Common.{◌≡◌, true, false, Bool, ℕ, ◌<◌, not, List, map, Result, Ok, Err, IfOk, IfSome, if◌then◌else◌, refl, sym, ap}
+use Rattle.std.proofs.Common.{◌∙◌, subst, arith, nat_lt, slice_index_or}
 use Rattle.std.proofs.lemmas.Bool.Decides.{nat_tests}
 use Rattle.std.specs.Prelude.{codes}
 use Rattle.std.specs.List.{list_any}
@@ -25,26 +26,31 @@ use Rattle.sws_run.specs.declared.ended.Ended.TheVariants.{PaletteTarget}
 use Rattle.sws_run.specs.declared.ended.SideName.TheVariants.{In, Out}
 use Rattle.sws_run.specs.declared.request.Input.{Input}
 use Rattle.sws_run.specs.declared.request.Conversion.{Conversion}
-use Rattle.sws_run.specs.Request.{format_of, raw_input, input_of, plain, target_of, conversion_with, conversion_of, IsSoundInput, HasForm, IsSoundConversion}
+use Rattle.sws_run.specs.Request.{format_of, raw_input, input_of, plain, target_of, conversion_with, conversion_of, IsSoundInput, HasForm}
+use Rattle.sws_run.specs.Request.{IsSoundConversion}
 
 -- ---- the formats of a stream are the same for the words and for the stream
 
-streams_computed : map (λ format. list_any (λ name. bytes_eq format.name (codes name)) stream_formats) formats ≡ map (λ format. is_some (text_of_name format.name)) formats
+streams_computed : map (λ format. list_any (λ name. bytes_eq format.name (codes name)) stream_formats) formats ≡ map
+    (λ format. is_some (text_of_name format.name)) formats
 unfolding formats colour_spaces text_of_name
 streams_computed = refl
 
 same_streams : (id : ℕ) → id < format_count → words.is_stream_format id ≡ stream.is_stream_format id
 unfolding words.is_stream_format
 same_streams id below =
-    agree_at_row (λ format. list_any (λ name. bytes_eq format.name (codes name)) stream_formats) (λ format. is_some (text_of_name format.name)) streams_computed id below
+    agree_at_row (λ format. list_any (λ name. bytes_eq format.name (codes name)) stream_formats)
+    (λ format. is_some (text_of_name format.name)) streams_computed id below
 
 -- ---- what is found
 
-input_found : (width height : ℕ) (found : Result ℕ FormatFault) → IfOk found (λ id. id < format_count) → IsFrame width height → IfOk (raw_input width height (format_of In found)) IsSoundInput
+input_found : (width height : ℕ) (found : Result ℕ FormatFault) → IfOk found (λ id. id < format_count) → IsFrame width height
+    → IfOk (raw_input width height (format_of In found)) IsSoundInput
 input_found width height (Err fault) known frame = tt
 input_found width height (Ok id) known frame = (known, frame)
 
-sound_input : (form : Form) (source : Option Named) (width height : ℕ) → IsSource form source width height → IfSome source IsSide → IfOk (input_of source width height) IsSoundInput
+sound_input : (form : Form) (source : Option Named) (width height : ℕ) → IsSource form source width height → IfSome source IsSide
+    → IfOk (input_of source width height) IsSoundInput
 sound_input form None width height is sides = tt
 sound_input Raw (Some side) width height is sides = input_found width height side.format sides.known is
 sound_input Y4m (Some side) width height is sides = absurd is
@@ -68,7 +74,8 @@ target_found : (form : Form) (id : ℕ) (palette : Bool) → (desc_of id).palett
 target_found form id true is below fits = tt
 target_found form id false is below fits = record { below = below; plain = is; fits = fits }
 
-target_at : (form : Form) (side : Named) (found : Result ℕ FormatFault) → side.format ≡ found → IfOk found (λ id. id < format_count) → FitsForm form side
+target_at : (form : Form) (side : Named) (found : Result ℕ FormatFault) → side.format ≡ found → IfOk found (λ id. id < format_count)
+    → FitsForm form side
     → IfOk (target_of found) (IsSoundTarget form)
 target_at form side (Err fault) is known fits = tt
 target_at form side (Ok id) is known fits = target_found form id (desc_of id).palette refl known (has_form form side id fits is known)
@@ -76,7 +83,8 @@ target_at form side (Ok id) is known fits = target_found form id (desc_of id).pa
 sound_target : (form : Form) (side : Named) → IsSide side → FitsForm form side → IfOk (target_of side.format) (IsSoundTarget form)
 sound_target form side sound fits = target_at form side side.format refl sound.known fits
 
-sound_with : (asked : Convert) (input : Result Input Ended) (target : Result ℕ Ended) → IfOk input IsSoundInput → IfOk target (IsSoundTarget asked.target_form)
+sound_with : (asked : Convert) (input : Result Input Ended) (target : Result ℕ Ended) → IfOk input IsSoundInput
+    → IfOk target (IsSoundTarget asked.target_form)
     → task.IsConversion asked → IfOk (conversion_with asked input target) IsSoundConversion
 sound_with asked (Err refusal) target input_sound target_sound sound = tt
 sound_with asked (Ok input) (Err refusal) input_sound target_sound sound = tt

@@ -24,7 +24,8 @@ told_map None b P Q f p = tt
 told_map (Some x) None P Q f p = absurd p
 told_map (Some x) (Some y) P Q f p = f x y p
 
-pub told_then : (a b c : Option (List ℕ)) (P Q R : List ℕ → List ℕ → Type 0) → ((x y z : List ℕ) → P x y → Q y z → R x z) → IfTold a b P → IfTold b c Q → IfTold a c R
+pub told_then : (a b c : Option (List ℕ)) (P Q R : List ℕ → List ℕ → Type 0) → ((x y z : List ℕ) → P x y → Q y z → R x z) → IfTold a b P
+    → IfTold b c Q → IfTold a c R
 told_then None b c P Q R f p q = tt
 told_then (Some x) None c P Q R f p q = absurd p
 told_then (Some x) (Some y) None P Q R f p q = absurd q
@@ -42,7 +43,8 @@ told_now (Some x) None P Q R f p q = absurd p
 told_now (Some x) (Some y) P Q R f p q = f x y p q
 
 -- a fact of what was there before
-pub told_old : (a b : Option (List ℕ)) (P : List ℕ → List ℕ → Type 0) (Q : List ℕ → Type 0) → ((x y : List ℕ) → P x y → Q x) → IfTold a b P → IfSome a Q
+pub told_old : (a b : Option (List ℕ)) (P : List ℕ → List ℕ → Type 0) (Q : List ℕ → Type 0) → ((x y : List ℕ) → P x y → Q x) → IfTold a b P
+    → IfSome a Q
 told_old None b P Q f p = tt
 told_old (Some x) None P Q f p = absurd p
 told_old (Some x) (Some y) P Q f p = f x y p

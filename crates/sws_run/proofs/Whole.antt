@@ -1,5 +1,6 @@
 -- How many parts lie wholly in a front of their sum.
-use Rattle.std.proofs.Common.{◌≡◌, ℕ, zero, suc, ◌+◌, ◌-◌, ◌<◌, ◌≤◌, List, [], ◌∷◌, ◌++◌, length, refl, sym, ap, ◌∙◌, arith, subst, map, zero-add, length-append, length-take-le, take-append-drop, take, drop}
+use Rattle.std.proofs.Common.{◌≡◌, ℕ, zero, suc, ◌+◌, ◌-◌, ◌<◌, ◌≤◌, List, [], ◌∷◌, ◌++◌, length, refl, sym, ap, ◌∙◌, arith, subst, map}
+use Rattle.std.proofs.Common.{zero-add, length-append, length-take-le, take-append-drop, take, drop}
 use Rattle.std.specs.List.{sum_by, concat}
 use Rattle.std.proofs.lemmas.List.Sums.{sum_by-cons}
 use Rattle.std.proofs.lemmas.Bool.Decides.{nat_tests}
@@ -11,7 +12,8 @@ IsBelowFirst size m [] = Unit {0}
 IsBelowFirst size m (x ∷ xs) = m < size x
 
 -- in the sum of the first parts and fewer bytes than the next part has, the first parts lie wholly
-pub whole_at : {X : Type 0} (size : X → ℕ) (xs ys : List X) (m : ℕ) → IsBelowFirst size m ys → whole_within size (sum_by size xs + m) (xs ++ ys) ≡ length xs
+pub whole_at : {X : Type 0} (size : X → ℕ) (xs ys : List X) (m : ℕ) → IsBelowFirst size m ys
+    → whole_within size (sum_by size xs + m) (xs ++ ys) ≡ length xs
 whole_at size [] [] m below = refl
 whole_at size [] (y ∷ ys) m below = grind (arith, nat_tests, below)
 whole_at size (x ∷ xs) ys m below =

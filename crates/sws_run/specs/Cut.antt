@@ -1,5 +1,6 @@
 -- The input is data: it is cut into what stands before its frames, its frames, and an end.
-use Rattle.std.specs.Prelude.{ℕ, zero, suc, ◌+◌, ◌-◌, List, [], ◌∷◌, length, take, drop, map, Option, None, Some, Result, Ok, Err, nat_le, if◌then◌else◌}
+use Rattle.std.specs.Prelude.{ℕ, zero, suc, ◌+◌, ◌-◌, List, [], ◌∷◌, length, take, drop, map, Option, None, Some, Result, Ok, Err, nat_le}
+use Rattle.std.specs.Prelude.{if◌then◌else◌}
 use Rattle.pix_desc.specs.Frame.{frame_length}
 use Rattle.desc_table.specs.Format.{desc_of}
 use Rattle.sws_words.specs.declared.task.Form.{Form}
@@ -54,7 +55,8 @@ abbrev pub piece_behind : ℕ → List ℕ → Result (Option ℕ) StreamFault �
 piece_behind size bytes (Err fault) = Faulty fault
 piece_behind size bytes (Ok None) = Nothing
 piece_behind size bytes (Ok (Some front)) =
-    if nat_le (front + size) (length bytes) then Whole (record { bytes = take size (drop front bytes); size = front + size }) else Faulty Truncated
+    if nat_le (front + size) (length bytes) then Whole (record { bytes = take size (drop front bytes); size = front + size }) else Faulty
+    Truncated
 
 unfoldable pub piece_cut : Form → ℕ → List ℕ → Piece
 piece_cut form size bytes = piece_behind size bytes (front_cut form bytes)
@@ -80,7 +82,15 @@ frames_cut form size (suc most) bytes = elim (piece_cut form size bytes) [
 
 -- the header that words say
 abbrev pub plain_header : ℕ → ℕ → ℕ → Header
-plain_header format width height = record { width = width; height = height; format = format; range = None; rate = None; interlace = None; aspect = None }
+plain_header format width height = record {
+  width = width;
+  height = height;
+  format = format;
+  range = None;
+  rate = None;
+  interlace = None;
+  aspect = None;
+}
 
 -- the header: of raw frames the words say it, and no byte of the input
 abbrev pub header_line_cut : Input → List ℕ → Result HeaderLine StreamFault

@@ -7,7 +7,8 @@ use Rattle.y4m_io.specs.declared.fault.StreamFault.TheVariants.{Truncated}
 use Rattle.y4m_io.specs.HeaderLine.{IsHeaderFault}
 use Rattle.y4m_io.specs.FrameLine.{IsFrameLineFault}
 use Rattle.sws_run.specs.declared.ended.Ended.{Ended}
-use Rattle.sws_run.specs.declared.ended.Ended.TheVariants.{Done, Usage, Format, PaletteTarget, Stream, ReadFault, WriteFault, OutOfMemory, TooManyFrames}
+use Rattle.sws_run.specs.declared.ended.Ended.TheVariants.{Done, Usage, Format, PaletteTarget, Stream, ReadFault, WriteFault, OutOfMemory}
+use Rattle.sws_run.specs.declared.ended.Ended.TheVariants.{TooManyFrames}
 use Rattle.sws_run.specs.Cut.{most_frames}
 
 -- the exit status

@@ -1,5 +1,6 @@
 -- The frames of an input one after the other: what reading one takes, and what a run over all of them promises.
-use Rattle.std.specs.Prelude.{◌≡◌, ◌<◌, ◌≤◌, ℕ, ◌++◌, List, [], length, take, drop, map, Option, None, Some, Result, Ok, Err, IfSome, if◌then◌else◌, Bool}
+use Rattle.std.specs.Prelude.{◌≡◌, ◌<◌, ◌≤◌, ℕ, ◌++◌, List, [], length, take, drop, map, Option, None, Some, Result, Ok, Err, IfSome}
+use Rattle.std.specs.Prelude.{if◌then◌else◌, Bool}
 use Rattle.std.specs.List.{concat}
 use Rattle.pix_io.specs.Shown.{Shown}
 use Rattle.pix_io.specs.Faults.{Rose}
@@ -22,7 +23,8 @@ use Rattle.sws_run.specs.declared.request.Conversion.{Conversion}
 use Rattle.sws_run.specs.declared.run.Converter.{Converter}
 use Rattle.sws_run.specs.Request.{form_of}
 use Rattle.sws_run.specs.Sides.{pair_of}
-use Rattle.sws_run.specs.Cut.{Frame, Frames, Piece, Nothing, Whole, Faulty, End, Clean, TooMany, header_line_cut, piece_cut, frames_cut, most_frames, whole_within}
+use Rattle.sws_run.specs.Cut.{Frame, Frames, Piece, Nothing, Whole, Faulty, End, Clean, TooMany, header_line_cut, piece_cut, frames_cut}
+use Rattle.sws_run.specs.Cut.{most_frames, whole_within}
 use Rattle.sws_run.specs.Ending.{IsDecided, CanEnd, IfDone, IfReadFault, IfWriteFault}
 use Rattle.sws_run.specs.Output.{ending_at, front_in}
 
@@ -113,7 +115,8 @@ texts_by converter size bytes = map (λ frame. text_by converter frame.bytes) (f
 -- an ending that nothing outside made is that of the frames' end, and all their texts were written
 pub record EndsFrames (converter : Converter) (size : ℕ) (source source' sink sink' : Shown) (ended : Ended) : Type 0 where
   pub known : IsDecided ended → CanEnd converter.source_form ended
-  pub ending : IsDecided ended → IfSome source.bytes (λ bytes. let cut = frames_by converter size bytes in ended ≡ ending_at cut.end (length cut.frames))
+  pub ending : IsDecided ended → IfSome source.bytes (λ bytes. let cut = frames_by converter size bytes in ended ≡ ending_at cut.end
+      (length cut.frames))
   pub output : IsDecided ended → IfSome source.bytes (λ bytes. Writes sink sink' (concat (texts_by converter size bytes)))
   pub read : IfDone ended (HasEnded source')
 
@@ -121,7 +124,8 @@ pub record EndsFrames (converter : Converter) (size : ℕ) (source source' sink 
 pub record StopsReading (converter : Converter) (size : ℕ) (source source' sink sink' : Shown) (ended : Ended) : Type 0 where
   pub cause : IfReadFault ended (λ k. Rose source.faults source'.faults)
   pub place : IfReadFault ended (λ k. IfTold source.bytes source'.bytes (λ bytes rest. (n : ℕ) × IsBehind n bytes rest
-      × (k ≡ whole_within (λ frame. frame.size) n (frames_by converter size bytes).frames) × Writes sink sink' (concat (take k (texts_by converter size bytes)))))
+      × (k ≡ whole_within (λ frame. frame.size) n (frames_by converter size bytes).frames) × Writes sink sink'
+      (concat (take k (texts_by converter size bytes)))))
 
 -- at a write fault a front of the texts was written, shorter than they are, and its frames are those that lie wholly in it
 pub record StopsWriting (converter : Converter) (size : ℕ) (source source' sink sink' : Shown) (ended : Ended) : Type 0 where

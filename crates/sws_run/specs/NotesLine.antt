@@ -3,13 +3,16 @@ use Rattle.std.specs.Prelude.{ℕ, List, [], ◌++◌, codes, decimal}
 use Rattle.desc_table.specs.declared.fault.FormatFault.{FormatFault}
 use Rattle.desc_table.specs.declared.fault.FormatFault.TheVariants.{Unknown, Subsampled, FloatFormat, Bitstream, OtherUnsupported}
 use Rattle.sws_words.specs.declared.fault.UsageFault.{UsageFault}
-use Rattle.sws_words.specs.declared.fault.UsageFault.TheVariants.{Words, Task, Missing, Unwanted, Value, Size, FixedRange, RgbRange, NotStreamFormat}
+use Rattle.sws_words.specs.declared.fault.UsageFault.TheVariants.{Words, Task, Missing, Unwanted, Value, Size, FixedRange, RgbRange}
+use Rattle.sws_words.specs.declared.fault.UsageFault.TheVariants.{NotStreamFormat}
 use Rattle.y4m_io.specs.declared.fault.StreamFault.{StreamFault}
-use Rattle.y4m_io.specs.declared.fault.StreamFault.TheVariants.{NoMagic, LineTooLong, BadTag, NoSize, BadSize, BadColour, NoFrameLine, Truncated}
+use Rattle.y4m_io.specs.declared.fault.StreamFault.TheVariants.{NoMagic, LineTooLong, BadTag, NoSize, BadSize, BadColour, NoFrameLine}
+use Rattle.y4m_io.specs.declared.fault.StreamFault.TheVariants.{Truncated}
 use Rattle.sws_run.specs.declared.ended.SideName.{SideName}
 use Rattle.sws_run.specs.declared.ended.SideName.TheVariants.{In, Out}
 use Rattle.sws_run.specs.declared.ended.Ended.{Ended}
-use Rattle.sws_run.specs.declared.ended.Ended.TheVariants.{Done, Usage, Format, PaletteTarget, Stream, ReadFault, WriteFault, OutOfMemory, TooManyFrames}
+use Rattle.sws_run.specs.declared.ended.Ended.TheVariants.{Done, Usage, Format, PaletteTarget, Stream, ReadFault, WriteFault, OutOfMemory}
+use Rattle.sws_run.specs.declared.ended.Ended.TheVariants.{TooManyFrames}
 
 -- the number and the name of a fault of words
 abbrev pub usage_text : UsageFault → List ℕ

@@ -6,7 +6,8 @@ ghost use Rattle.sws_run.specs.Cut.{source_length};
 ghost use Rattle.sws_run.specs.Frames.{IsConverterOf, IsSoundOpening, ended_by};
 ghost use Rattle.sws_run.specs.Output.{header_of, header_in};
 ghost use Rattle.sws_run.specs.Request.{form_of, IsSoundConversion};
-ghost use Rattle.sws_run.specs.Run.{GivesAnswer, GivesReadFault, GivesWriteFault, GivesOutOfMemory, IsComplete};
+ghost use Rattle.sws_run.specs.Run.{GivesAnswer, GivesReadFault, GivesWriteFault, GivesOutOfMemory};
+ghost use Rattle.sws_run.specs.Run.{IsComplete};
 ghost use Rattle.sws_run.specs.Sides.{pair_of};
 
 use crate::Ended;
@@ -23,8 +24,8 @@ use std::alloc::Global;
 use sws_words::Form;
 use y4m_io::{Header, HeaderEnd};
 
-// What is made once for a stream: its converter, the text before its frames, and a buffer for a source frame and one for its
-// target frame.
+// What is made once for a stream: its converter, the text before its frames, and a buffer for a
+// source frame and one for its target frame.
 #[derive(Drop)]
 struct Stream {
     converter: Converter,
@@ -66,10 +67,13 @@ fn form_of(input: &Input) -> Form
 fn prepare(alloc: Global, conversion: &Conversion, header: Header) -> Result<Stream, OutOfMemory>
     requires sound { IsSoundConversion conversion.now }
     requires header { IsSoundOpening header }
-    ensures converter { IfOk result (λ stream. IsConverterOf conversion.now header stream.converter) }
-    ensures text { IfOk result (λ stream. stream.text.items ≡ header_in conversion.now.target_form (header_of conversion.now header)) }
+    ensures converter { IfOk result (λ stream. IsConverterOf conversion.now header
+        stream.converter) }
+    ensures text { IfOk result (λ stream. stream.text.items ≡ header_in conversion.now.target_form
+        (header_of conversion.now header)) }
     ensures frame { IfOk result (λ stream. length stream.frame.items ≡ source_length header) }
-    ensures target { IfOk result (λ stream. length stream.target.items ≡ frame_length (desc_of conversion.now.target) header.width header.height) }
+    ensures target { IfOk result (λ stream. length stream.target.items ≡ frame_length
+        (desc_of conversion.now.target) header.width header.height) }
 {
     let converter = Converter {
         plan: plan_of(alloc, conversion, &header)?,
@@ -105,7 +109,8 @@ fn ended_by(end: HeaderEnd) -> Ended
     }
 }
 
-/// Converts a stream: reads the header of the input, writes that of the output, and then converts frame after frame.
+/// Converts a stream: reads the header of the input, writes that of the output, and then converts
+/// frame after frame.
 pub fn convert<In: Source, Out: Sink>(
     alloc: Global,
     conversion: &Conversion,
@@ -113,11 +118,17 @@ pub fn convert<In: Source, Out: Sink>(
     output: &mut Out,
 ) -> Ended
     requires { IsSoundConversion conversion.now }
-    ensures answer { GivesAnswer (Ok (Request.Convert conversion.now)) (In.shown input.old) (In.shown input.new) (Out.shown output.old) (Out.shown output.new) result }
-    ensures read_fault { GivesReadFault (Ok (Request.Convert conversion.now)) (In.shown input.old) (In.shown input.new) (Out.shown output.old) (Out.shown output.new) result }
-    ensures write_fault { GivesWriteFault (Ok (Request.Convert conversion.now)) (In.shown input.old) (In.shown input.new) (Out.shown output.old) (Out.shown output.new) result }
-    ensures memory { GivesOutOfMemory (Ok (Request.Convert conversion.now)) (In.shown input.old) (In.shown input.new) (Out.shown output.old) (Out.shown output.new) result }
-    ensures complete { IsComplete (In.shown input.old) (In.shown input.new) (Out.shown output.old) (Out.shown output.new) result }
+    ensures answer { GivesAnswer (Ok (Request.Convert conversion.now)) (In.shown input.old)
+        (In.shown input.new)
+        (Out.shown output.old) (Out.shown output.new) result }
+    ensures read_fault { GivesReadFault (Ok (Request.Convert conversion.now)) (In.shown input.old)
+        (In.shown input.new) (Out.shown output.old) (Out.shown output.new) result }
+    ensures write_fault { GivesWriteFault (Ok (Request.Convert conversion.now)) (In.shown input.old)
+        (In.shown input.new) (Out.shown output.old) (Out.shown output.new) result }
+    ensures memory { GivesOutOfMemory (Ok (Request.Convert conversion.now)) (In.shown input.old)
+        (In.shown input.new) (Out.shown output.old) (Out.shown output.new) result }
+    ensures complete { IsComplete (In.shown input.old) (In.shown input.new) (Out.shown output.old)
+        (Out.shown output.new) result }
 {
     let header = match input_header(alloc, &conversion.input, input) {
         Ok(header) => header,

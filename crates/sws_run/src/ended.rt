@@ -18,8 +18,8 @@ pub enum SideName {
 /// How a run ended. `frames` counts the frames written whole.
 #[derive(Clone, Copy, Debug, PartialEq, Eq)]
 pub enum Ended {
-    /// The input was read to its end, after a whole frame, a header, or nothing of raw form, and its target frames are written;
-    /// or the list of formats is.
+    /// The input was read to its end, after a whole frame, a header, or nothing of raw form, and
+    /// its target frames are written; or the list of formats is.
     Done { frames: u32 },
     /// The words are refused. Nothing is read or written.
     Usage(UsageFault),

@@ -1,5 +1,6 @@
 // The list of formats, as text.
-ghost use Rattle.std.specs.Prelude.{◌≡◌, ◌++◌, ◌≤◌, OnOk, IfOk, string_bytes, decimal, if◌then◌else◌};
+ghost use Rattle.std.specs.Prelude.{◌≡◌, ◌++◌, ◌≤◌, OnOk, IfOk, string_bytes, decimal};
+ghost use Rattle.std.specs.Prelude.{if◌then◌else◌};
 ghost use Rattle.std.specs.Prelude.{[]};
 ghost use Rattle.desc_table.specs.Format.{format_at};
 ghost use Rattle.sws_run.specs.FormatList.{letters_of, component_text, components_text};
@@ -38,7 +39,8 @@ fn push_letters(text: &mut String, desc: &Desc) -> Result<(), OutOfMemory>
 
 // A number behind a mark.
 fn push_marked(text: &mut String, mark: &str, n: u8) -> Result<(), OutOfMemory>
-    ensures { OnOk result (string_bytes text.new ≡ string_bytes text.old ++ (mark.now ++ decimal n)) }
+    ensures { OnOk result (string_bytes text.new ≡ string_bytes text.old ++
+        (mark.now ++ decimal n)) }
 {
     let mut buffer = Buffer::new();
     text.push_str(mark)?;
@@ -49,7 +51,8 @@ fn push_marked(text: &mut String, mark: &str, n: u8) -> Result<(), OutOfMemory>
 // The numbers of a component, behind a space.
 #[tactic(auto, unfolding(crate::specs::FormatList::component_text))]
 fn push_component(text: &mut String, comp: &Comp) -> Result<(), OutOfMemory>
-    ensures { OnOk result (string_bytes text.new ≡ string_bytes text.old ++ component_text comp.now) }
+    ensures { OnOk result (string_bytes text.new
+        ≡ string_bytes text.old ++ component_text comp.now) }
 {
     let mut buffer = Buffer::new();
     push_marked(text, " ", comp.plane)?;
@@ -63,7 +66,8 @@ fn push_component(text: &mut String, comp: &Comp) -> Result<(), OutOfMemory>
 // The numbers of each component.
 #[tactic(auto, unfolding(crate::specs::FormatList::components_text))]
 fn push_components(text: &mut String, comps: &[Comp]) -> Result<(), OutOfMemory>
-    ensures { OnOk result (string_bytes text.new ≡ string_bytes text.old ++ components_text comps.now) }
+    ensures { OnOk result (string_bytes text.new
+        ≡ string_bytes text.old ++ components_text comps.now) }
 {
     for comp in comps {
         push_component(text, comp)?;
@@ -74,7 +78,8 @@ fn push_components(text: &mut String, comps: &[Comp]) -> Result<(), OutOfMemory>
 // The line of a format.
 #[tactic(auto, unfolding(crate::specs::FormatList::format_line))]
 fn push_format(text: &mut String, id: FormatId) -> Result<(), OutOfMemory>
-    ensures { OnOk result (string_bytes text.new ≡ string_bytes text.old ++ format_line (format_at id)) }
+    ensures { OnOk result (string_bytes text.new ≡ string_bytes text.old ++ format_line
+        (format_at id)) }
 {
     let desc = desc(id);
     text.push_str(name(id))?;

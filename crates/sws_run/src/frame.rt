@@ -1,5 +1,6 @@
 // A frame of the input, read, and a frame of the output, written.
-ghost use Rattle.std.specs.Prelude.{◌≡◌, ◌<◌, ◌++◌, length, IsTrue, IfOk, IfErr, IfSome, OnOk, OnErr};
+ghost use Rattle.std.specs.Prelude.{◌≡◌, ◌<◌, ◌++◌, length, IsTrue, IfOk, IfErr, IfSome, OnOk};
+ghost use Rattle.std.specs.Prelude.{OnErr};
 ghost use Rattle.pix_io.specs.Faults.{HasCause};
 ghost use Rattle.pix_io.specs.Streams.{Writes, WritesPart, HasEnded};
 ghost use Rattle.y4m_io.specs.Reading.{line_fault, line_reads};
@@ -24,11 +25,15 @@ pub enum Next {
 // Reads a raw frame, or finds the input at its end.
 fn read_raw_frame<In: Source>(input: &mut In, frame: &mut [u8]) -> Result<Next, LineEnd>
     requires { 0 < length frame.old }
-    ensures next { IfOk result (ReadsNext Form.Raw (In.shown input.old) (In.shown input.new) frame.new) }
-    ensures fault { IfErr result (λ end. IfSome (line_fault end) (λ fault. IfSome (In.shown input.old).bytes (λ bytes.
+    ensures next { IfOk result (ReadsNext Form.Raw (In.shown input.old)
+        (In.shown input.new) frame.new) }
+    ensures fault { IfErr result (λ end. IfSome (line_fault end)
+        (λ fault. IfSome (In.shown input.old).bytes (λ bytes.
         piece_cut Form.Raw (length frame.new) bytes ≡ Faulty fault))) }
     ensures known { IfErr result (λ end. IfSome (line_fault end) (IsFrameFault Form.Raw)) }
-    ensures read_fault { OnErr (line_reads result) (IfTold (In.shown input.old).bytes (In.shown input.new).bytes (TakesPiece Form.Raw (length frame.new))) }
+    ensures read_fault { OnErr (line_reads result)
+        (IfTold (In.shown input.old).bytes (In.shown input.new).bytes
+        (TakesPiece Form.Raw (length frame.new))) }
     ensures cause { HasCause (In.shown input.old) (In.shown input.new) (line_reads result) }
 {
     match read_whole(input, frame) {
@@ -42,11 +47,15 @@ fn read_raw_frame<In: Source>(input: &mut In, frame: &mut [u8]) -> Result<Next, 
 // Reads a frame with its line, or finds the input at its end.
 fn read_stream_frame<In: Source>(input: &mut In, frame: &mut [u8]) -> Result<Next, LineEnd>
     requires { 0 < length frame.old }
-    ensures next { IfOk result (ReadsNext Form.Y4m (In.shown input.old) (In.shown input.new) frame.new) }
-    ensures fault { IfErr result (λ end. IfSome (line_fault end) (λ fault. IfSome (In.shown input.old).bytes (λ bytes.
+    ensures next { IfOk result (ReadsNext Form.Y4m (In.shown input.old)
+        (In.shown input.new) frame.new) }
+    ensures fault { IfErr result (λ end. IfSome (line_fault end)
+        (λ fault. IfSome (In.shown input.old).bytes (λ bytes.
         piece_cut Form.Y4m (length frame.new) bytes ≡ Faulty fault))) }
     ensures known { IfErr result (λ end. IfSome (line_fault end) (IsFrameFault Form.Y4m)) }
-    ensures read_fault { OnErr (line_reads result) (IfTold (In.shown input.old).bytes (In.shown input.new).bytes (TakesPiece Form.Y4m (length frame.new))) }
+    ensures read_fault { OnErr (line_reads result)
+        (IfTold (In.shown input.old).bytes (In.shown input.new).bytes
+        (TakesPiece Form.Y4m (length frame.new))) }
     ensures cause { HasCause (In.shown input.old) (In.shown input.new) (line_reads result) }
 {
     match read_frame_line(input) {
@@ -62,14 +71,19 @@ fn read_stream_frame<In: Source>(input: &mut In, frame: &mut [u8]) -> Result<Nex
     }
 }
 
-/// Reads the next frame of an input of this form, which then fills `frame`, or finds the input at its end.
+/// Reads the next frame of an input of this form, which then fills `frame`, or finds the input at
+/// its end.
 pub fn read_frame<In: Source>(form: Form, input: &mut In, frame: &mut [u8]) -> Result<Next, LineEnd>
     requires { 0 < length frame.old }
-    ensures next { IfOk result (ReadsNext form (In.shown input.old) (In.shown input.new) frame.new) }
-    ensures fault { IfErr result (λ end. IfSome (line_fault end) (λ fault. IfSome (In.shown input.old).bytes (λ bytes.
+    ensures next { IfOk result
+        (ReadsNext form (In.shown input.old) (In.shown input.new) frame.new) }
+    ensures fault { IfErr result (λ end. IfSome (line_fault end)
+        (λ fault. IfSome (In.shown input.old).bytes (λ bytes.
         piece_cut form (length frame.new) bytes ≡ Faulty fault))) }
     ensures known { IfErr result (λ end. IfSome (line_fault end) (IsFrameFault form)) }
-    ensures read_fault { OnErr (line_reads result) (IfTold (In.shown input.old).bytes (In.shown input.new).bytes (TakesPiece form (length frame.new))) }
+    ensures read_fault { OnErr (line_reads result)
+        (IfTold (In.shown input.old).bytes (In.shown input.new).bytes
+        (TakesPiece form (length frame.new))) }
     ensures cause { HasCause (In.shown input.old) (In.shown input.new) (line_reads result) }
 {
     match form {
@@ -80,9 +94,11 @@ pub fn read_frame<In: Source>(form: Form, input: &mut In, frame: &mut [u8]) -> R
 
 /// Whether no byte is left behind the last frame that there may be.
 pub fn is_at_end<In: Source>(input: &mut In) -> Result<bool, Failed>
-    ensures end { IfOk result (λ ended. IfSome (In.shown input.old).bytes (λ bytes. last_end bytes ≡ end_if ended)) }
+    ensures end { IfOk result (λ ended. IfSome (In.shown input.old).bytes
+        (λ bytes. last_end bytes ≡ end_if ended)) }
     ensures ended { IfOk result (λ ended. IsTrue ended → HasEnded (In.shown input.new)) }
-    ensures kept { OnErr result (IfTold (In.shown input.old).bytes (In.shown input.new).bytes (λ bytes rest. rest ≡ bytes)) }
+    ensures kept { OnErr result (IfTold (In.shown input.old).bytes (In.shown input.new).bytes
+        (λ bytes rest. rest ≡ bytes)) }
     ensures cause { HasCause (In.shown input.old) (In.shown input.new) result }
 {
     let mut byte = [0];
@@ -106,8 +122,10 @@ fn front(form: Form) -> &'static [u8]
 
 /// Writes a frame, in a stream behind its line.
 pub fn write_frame<Out: Sink>(form: Form, output: &mut Out, frame: &[u8]) -> Result<(), Failed>
-    ensures written { OnOk result (Writes (Out.shown output.old) (Out.shown output.new) (front_in form ++ frame.now)) }
-    ensures part { OnErr result (WritesPart (Out.shown output.old) (Out.shown output.new) (front_in form ++ frame.now)) }
+    ensures written { OnOk result (Writes (Out.shown output.old) (Out.shown output.new)
+        (front_in form ++ frame.now)) }
+    ensures part { OnErr result (WritesPart (Out.shown output.old) (Out.shown output.new)
+        (front_in form ++ frame.now)) }
     ensures cause { HasCause (Out.shown output.old) (Out.shown output.new) result }
 {
     match write_all(output, front(form)) {

@@ -1,6 +1,7 @@
 // The line on notes of an ending.
 ghost use Rattle.std.specs.Prelude.{◌≡◌, ◌≤◌, ◌+◌, ◌++◌, length, take};
-ghost use Rattle.sws_run.specs.NotesLine.{usage_text, format_text, stream_text, side_text, after_frames, line_of};
+ghost use Rattle.sws_run.specs.NotesLine.{usage_text, format_text, stream_text, side_text};
+ghost use Rattle.sws_run.specs.NotesLine.{after_frames, line_of};
 
 use crate::ended::{Ended, SideName};
 use desc_table::FormatFault;
@@ -141,7 +142,8 @@ fn put_line(line: &mut [u8], ended: &Ended) -> usize
     }
 }
 
-/// The line on notes of an ending, with its newline, made in `room`; empty where the run is done. It takes no memory.
+/// The line on notes of an ending, with its newline, made in `room`; empty where the run is done.
+/// It takes no memory.
 pub fn notes_line<'a>(ended: &Ended, room: &'a mut [u8; 128]) -> &'a [u8]
     ensures { result.now ≡ line_of ended.now }
 {

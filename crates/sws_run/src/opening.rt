@@ -22,11 +22,18 @@ pub fn input_header<In: Source>(
     input: &mut In,
 ) -> Result<Header, HeaderEnd>
     requires { IsSoundInput kind.now }
-    ensures header { IfOk result (λ header. IfTold (In.shown input.old).bytes (In.shown input.new).bytes (TakesHeader kind.now header)) }
+    ensures header { IfOk result (λ header. IfTold (In.shown input.old).bytes
+        (In.shown input.new).bytes
+        (TakesHeader kind.now header)) }
     ensures sound { IfOk result IsSoundOpening }
-    ensures fault { IfErr result (λ end. IfSome (header_fault end) (λ fault. IfSome (In.shown input.old).bytes (λ bytes. header_line_cut kind.now bytes ≡ Err fault))) }
-    ensures known { IfErr result (λ end. IfSome (header_fault end) (IsOpeningFault (form_of kind.now))) }
-    ensures read_fault { OnErr (header_reads result) (IfTold (In.shown input.old).bytes (In.shown input.new).bytes (TakesHeaderPart kind.now)) }
+    ensures fault { IfErr result (λ end. IfSome (header_fault end)
+        (λ fault. IfSome (In.shown input.old).bytes
+        (λ bytes. header_line_cut kind.now bytes ≡ Err fault))) }
+    ensures known { IfErr result (λ end. IfSome (header_fault end)
+        (IsOpeningFault (form_of kind.now))) }
+    ensures read_fault { OnErr (header_reads result)
+        (IfTold (In.shown input.old).bytes (In.shown input.new).bytes
+        (TakesHeaderPart kind.now)) }
     ensures cause { HasCause (In.shown input.old) (In.shown input.new) (header_reads result) }
 {
     match kind {
@@ -54,7 +61,8 @@ pub fn output_header(
     header: Header,
 ) -> Result<Vec<u8>, OutOfMemory>
     requires { IsSoundConversion conversion.now }
-    ensures { IfOk result (λ text. text.items ≡ header_in conversion.now.target_form (header_of conversion.now header)) }
+    ensures { IfOk result (λ text. text.items ≡ header_in conversion.now.target_form
+        (header_of conversion.now header)) }
 {
     match conversion.target_form {
         Form::Raw => Ok(Vec::new(alloc)),

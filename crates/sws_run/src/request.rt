@@ -2,7 +2,8 @@
 ghost use Rattle.std.specs.Prelude.{◌≡◌, Ok, IfOk, IfErr};
 ghost use Rattle.sws_words.specs.Task.{IsSound as IsSoundTask};
 ghost use Rattle.sws_run.specs.Ending.{IsRefusal};
-ghost use Rattle.sws_run.specs.Request.{IsSound, input_of, format_of, target_of, conversion_of, request_of};
+ghost use Rattle.sws_run.specs.Request.{IsSound, input_of, format_of, target_of, conversion_of};
+ghost use Rattle.sws_run.specs.Request.{request_of};
 
 use crate::{Ended, SideName};
 use colour_matrix::{Matrix, Range};

@@ -27,7 +27,8 @@ pub struct Converter {
     pub target_form: Form,
 }
 
-/// Converts the frames of the input one after the other, in a buffer for a source frame and one for its target frame.
+/// Converts the frames of the input one after the other, in a buffer for a source frame and one for
+/// its target frame.
 pub fn convert_frames<In: Source, Out: Sink>(
     converter: &Converter,
     input: &mut In,
@@ -37,14 +38,25 @@ pub fn convert_frames<In: Source, Out: Sink>(
 ) -> Ended
     requires height { converter.now.height ≤ 16384 }
     requires some { 0 < length frame.old }
-    requires frame { length frame.old ≡ frame_length converter.now.plan.pair.from.desc converter.now.width converter.now.height }
-    requires target { length target.old ≡ frame_length converter.now.plan.pair.to.desc converter.now.width converter.now.height }
+    requires frame { length frame.old ≡ frame_length converter.now.plan.pair.from.desc
+        converter.now.width
+        converter.now.height }
+    requires target { length target.old ≡ frame_length converter.now.plan.pair.to.desc
+        converter.now.width
+        converter.now.height }
 
-    ensures answer { EndsFrames converter.now (length frame.old) (In.shown input.old) (In.shown input.new) (Out.shown output.old) (Out.shown output.new) result }
-    ensures read_fault { StopsReading converter.now (length frame.old) (In.shown input.old) (In.shown input.new) (Out.shown output.old) (Out.shown output.new) result }
-    ensures write_fault { StopsWriting converter.now (length frame.old) (In.shown input.old) (In.shown input.new) (Out.shown output.old) (Out.shown output.new) result }
+    ensures answer { EndsFrames converter.now (length frame.old) (In.shown input.old)
+        (In.shown input.new)
+        (Out.shown output.old) (Out.shown output.new) result }
+    ensures read_fault { StopsReading converter.now (length frame.old) (In.shown input.old)
+        (In.shown input.new)
+        (Out.shown output.old) (Out.shown output.new) result }
+    ensures write_fault { StopsWriting converter.now (length frame.old) (In.shown input.old)
+        (In.shown input.new)
+        (Out.shown output.old) (Out.shown output.new) result }
     ensures memory { IfOutOfMemory result (λ _. ⊥) }
-    ensures complete { IsComplete (In.shown input.old) (In.shown input.new) (Out.shown output.old) (Out.shown output.new) result }
+    ensures complete { IsComplete (In.shown input.old) (In.shown input.new) (Out.shown output.old)
+        (Out.shown output.new) result }
 {
     for done in 0..MAX_FRAMES {
         match read_frame(converter.source_form, input, frame) {

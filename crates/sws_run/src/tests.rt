@@ -13,8 +13,8 @@ use std::process::Abort;
 use std::test::Fail;
 use std::thread::Threads;
 
-// How the streams of a run behave: the most bytes that a read or a write moves, at least one, and the number of the call that
-// fails, of the source, the sink and the notes.
+// How the streams of a run behave: the most bytes that a read or a write moves, at least one, and
+// the number of the call that fails, of the source, the sink and the notes.
 #[derive(Clone, Copy)]
 struct Faults {
     piece: usize,

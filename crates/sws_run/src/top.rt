@@ -2,7 +2,8 @@
 ghost use Rattle.std.specs.Prelude.{◌≡◌, map, string_bytes, Ok, Err};
 ghost use Rattle.pix_io.specs.Shown.{Shown};
 ghost use Rattle.sws_run.specs.Request.{asked_by};
-ghost use Rattle.sws_run.specs.Run.{GivesAnswer, GivesReadFault, GivesWriteFault, GivesOutOfMemory, GivesNotes, IsComplete};
+ghost use Rattle.sws_run.specs.Run.{GivesAnswer, GivesReadFault, GivesWriteFault, GivesOutOfMemory};
+ghost use Rattle.sws_run.specs.Run.{GivesNotes, IsComplete};
 
 use crate::Ended;
 use crate::convert::convert;
@@ -25,11 +26,20 @@ impl Gate for OpenGate {}
 
 // Writes the list of formats.
 fn list<Out: Sink>(alloc: Global, output: &mut Out) -> Ended
-    ensures answer { (source : Shown) → GivesAnswer (Ok Request.List) source source (Out.shown output.old) (Out.shown output.new) result }
-    ensures read_fault { (source : Shown) → GivesReadFault (Ok Request.List) source source (Out.shown output.old) (Out.shown output.new) result }
-    ensures write_fault { (source : Shown) → GivesWriteFault (Ok Request.List) source source (Out.shown output.old) (Out.shown output.new) result }
-    ensures memory { (source : Shown) → GivesOutOfMemory (Ok Request.List) source source (Out.shown output.old) (Out.shown output.new) result }
-    ensures complete { (source : Shown) → IsComplete source source (Out.shown output.old) (Out.shown output.new) result }
+    ensures answer { (source : Shown) → GivesAnswer (Ok Request.List) source source
+        (Out.shown output.old)
+        (Out.shown output.new) result }
+    ensures read_fault { (source : Shown) → GivesReadFault (Ok Request.List) source source
+        (Out.shown output.old)
+        (Out.shown output.new) result }
+    ensures write_fault { (source : Shown) → GivesWriteFault (Ok Request.List) source source
+        (Out.shown output.old)
+        (Out.shown output.new) result }
+    ensures memory { (source : Shown) → GivesOutOfMemory (Ok Request.List) source source
+        (Out.shown output.old)
+        (Out.shown output.new) result }
+    ensures complete { (source : Shown) → IsComplete source source (Out.shown output.old)
+        (Out.shown output.new) result }
 {
     let Ok(text) = list_text(alloc) else {
         return Ended::OutOfMemory { frames: 0 };
@@ -47,11 +57,17 @@ fn run_words<In: Source, Out: Sink>(
     input: &mut In,
     output: &mut Out,
 ) -> Ended
-    ensures answer { GivesAnswer (asked_by (map string_bytes words.now)) (In.shown input.old) (In.shown input.new) (Out.shown output.old) (Out.shown output.new) result }
-    ensures read_fault { GivesReadFault (asked_by (map string_bytes words.now)) (In.shown input.old) (In.shown input.new) (Out.shown output.old) (Out.shown output.new) result }
-    ensures write_fault { GivesWriteFault (asked_by (map string_bytes words.now)) (In.shown input.old) (In.shown input.new) (Out.shown output.old) (Out.shown output.new) result }
-    ensures memory { GivesOutOfMemory (asked_by (map string_bytes words.now)) (In.shown input.old) (In.shown input.new) (Out.shown output.old) (Out.shown output.new) result }
-    ensures complete { IsComplete (In.shown input.old) (In.shown input.new) (Out.shown output.old) (Out.shown output.new) result }
+    ensures answer { GivesAnswer (asked_by (map string_bytes words.now)) (In.shown input.old)
+        (In.shown input.new) (Out.shown output.old) (Out.shown output.new) result }
+    ensures read_fault { GivesReadFault (asked_by (map string_bytes words.now)) (In.shown input.old)
+        (In.shown input.new) (Out.shown output.old) (Out.shown output.new) result }
+    ensures write_fault { GivesWriteFault (asked_by (map string_bytes words.now))
+        (In.shown input.old)
+        (In.shown input.new) (Out.shown output.old) (Out.shown output.new) result }
+    ensures memory { GivesOutOfMemory (asked_by (map string_bytes words.now)) (In.shown input.old)
+        (In.shown input.new) (Out.shown output.old) (Out.shown output.new) result }
+    ensures complete { IsComplete (In.shown input.old) (In.shown input.new) (Out.shown output.old)
+        (Out.shown output.new) result }
 {
     let task = match read_words(alloc, words) {
         Ok(task) => task,
@@ -65,8 +81,9 @@ fn run_words<In: Source, Out: Sink>(
     }
 }
 
-/// Runs the converter on the words after the program's name: converts a stream of frames from the input to the output, or
-/// writes the list of formats. The line of the ending is written to `notes`, whose faults change nothing else.
+/// Runs the converter on the words after the program's name: converts a stream of frames from the
+/// input to the output, or writes the list of formats. The line of the ending is written to
+/// `notes`, whose faults change nothing else.
 ///
 /// The six clauses are records in `specs/Run.antt`.
 pub fn run_sws<R: Threads + Sync, In: Source, Out: Sink, Notes: Sink, G: Gate>(
@@ -78,12 +95,18 @@ pub fn run_sws<R: Threads + Sync, In: Source, Out: Sink, Notes: Sink, G: Gate>(
     notes: &mut Notes,
     _gate: &G,
 ) -> Ended
-    ensures answer { GivesAnswer (asked_by (map string_bytes words.now)) (In.shown input.old) (In.shown input.new) (Out.shown output.old) (Out.shown output.new) result }
-    ensures read_fault { GivesReadFault (asked_by (map string_bytes words.now)) (In.shown input.old) (In.shown input.new) (Out.shown output.old) (Out.shown output.new) result }
-    ensures write_fault { GivesWriteFault (asked_by (map string_bytes words.now)) (In.shown input.old) (In.shown input.new) (Out.shown output.old) (Out.shown output.new) result }
-    ensures memory { GivesOutOfMemory (asked_by (map string_bytes words.now)) (In.shown input.old) (In.shown input.new) (Out.shown output.old) (Out.shown output.new) result }
+    ensures answer { GivesAnswer (asked_by (map string_bytes words.now)) (In.shown input.old)
+        (In.shown input.new) (Out.shown output.old) (Out.shown output.new) result }
+    ensures read_fault { GivesReadFault (asked_by (map string_bytes words.now)) (In.shown input.old)
+        (In.shown input.new) (Out.shown output.old) (Out.shown output.new) result }
+    ensures write_fault { GivesWriteFault (asked_by (map string_bytes words.now))
+        (In.shown input.old)
+        (In.shown input.new) (Out.shown output.old) (Out.shown output.new) result }
+    ensures memory { GivesOutOfMemory (asked_by (map string_bytes words.now)) (In.shown input.old)
+        (In.shown input.new) (Out.shown output.old) (Out.shown output.new) result }
     ensures notes { GivesNotes (Notes.shown notes.old) (Notes.shown notes.new) result }
-    ensures complete { IsComplete (In.shown input.old) (In.shown input.new) (Out.shown output.old) (Out.shown output.new) result }
+    ensures complete { IsComplete (In.shown input.old) (In.shown input.new) (Out.shown output.old)
+        (Out.shown output.new) result }
 {
     let ended = run_words(alloc, words, input, output);
     write_notes(notes, &ended);

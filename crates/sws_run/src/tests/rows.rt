@@ -99,7 +99,8 @@ fn converts_by_a_palette(rt: HostRuntime) -> Result<(), Fail> {
 fn converts_streams(rt: HostRuntime) -> Result<(), Fail> {
     let alloc = rt.alloc();
     let limited: &[u8] =
-        b"YUV4MPEG2 W2 H1 F25:1 Ip A1:1 C444 XYSCSS=444 XCOLORRANGE=LIMITED\nFRAME\n\x51\x10\x5a\x80\xf0\x80";
+        b"YUV4MPEG2 W2 H1 F25:1 Ip A1:1 C444 XYSCSS=444 XCOLORRANGE=LIMITED\nFRAME\n\
+        \x51\x10\x5a\x80\xf0\x80";
     converts(
         &rt,
         alloc,
@@ -122,7 +123,8 @@ fn converts_streams(rt: HostRuntime) -> Result<(), Fail> {
         "--from y4m --to y4m --out gray",
         b"YUV4MPEG2 W1 H2 F30000:1001 It A8:9 Cmono\nFRAME Ip\n\x01\x02FRAME\n\x03\x04",
         2,
-        b"YUV4MPEG2 W1 H2 F30000:1001 It A8:9 Cmono XCOLORRANGE=FULL\nFRAME\n\x01\x02FRAME\n\x03\x04",
+        b"YUV4MPEG2 W1 H2 F30000:1001 It A8:9 Cmono XCOLORRANGE=FULL\nFRAME\n\x01\x02\
+        FRAME\n\x03\x04",
     )?;
     converts(
         &rt,

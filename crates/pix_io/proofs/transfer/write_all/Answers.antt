@@ -12,6 +12,7 @@ loop-done-preserved g c =
     let rest = between_to_end piece done (length piece) (le_refl (length piece)) in
     record {
       within = search rules;
-      written = Appends-next _ _ _ piece done n c.loop-done.invariant.written (subst (Appends _ _) (ap (take n) rest) c.in_ok-done.ensures.bytes);
+      written = Appends-next _ _ _ piece done n c.loop-done.invariant.written
+          (subst (Appends _ _) (ap (take n) rest) c.in_ok-done.ensures.bytes);
       quiet = search rules;
     }

@@ -14,28 +14,32 @@ returns-in-Err-clause-answer g c =
     let s0 = g.In.Source.shown c.args.input.now in
     let s1 = g.In.Source.shown c.input_header.new.input in
     let k = g.Out.Sink.shown c.args.output.now in
-    subst (GivesAnswer (Ok (request.Convert c.args.conversion.now)) s0 s1 k k) (sym c.ended_by.ensures) (exit_answer c.args.conversion.now c.in-Err.end s0 s1 k c.in-Err.ensures.known c.in-Err.ensures.fault)
+    subst (GivesAnswer (Ok (request.Convert c.args.conversion.now)) s0 s1 k k) (sym c.ended_by.ensures)
+    (exit_answer c.args.conversion.now c.in-Err.end s0 s1 k c.in-Err.ensures.known c.in-Err.ensures.fault)
 
 pub returns-in-Err-clause-read_fault : goal.returns-in-Err-clause-read_fault
 returns-in-Err-clause-read_fault g c =
     let s0 = g.In.Source.shown c.args.input.now in
     let s1 = g.In.Source.shown c.input_header.new.input in
     let k = g.Out.Sink.shown c.args.output.now in
-    subst (GivesReadFault (Ok (request.Convert c.args.conversion.now)) s0 s1 k k) (sym c.ended_by.ensures) (exit_read_fault c.args.conversion.now c.in-Err.end s0 s1 k c.in-Err.ensures.cause c.in-Err.ensures.read_fault)
+    subst (GivesReadFault (Ok (request.Convert c.args.conversion.now)) s0 s1 k k) (sym c.ended_by.ensures)
+    (exit_read_fault c.args.conversion.now c.in-Err.end s0 s1 k c.in-Err.ensures.cause c.in-Err.ensures.read_fault)
 
 pub returns-in-Err-clause-write_fault : goal.returns-in-Err-clause-write_fault
 returns-in-Err-clause-write_fault g c =
     let s0 = g.In.Source.shown c.args.input.now in
     let s1 = g.In.Source.shown c.input_header.new.input in
     let k = g.Out.Sink.shown c.args.output.now in
-    subst (GivesWriteFault (Ok (request.Convert c.args.conversion.now)) s0 s1 k k) (sym c.ended_by.ensures) (exit_write_fault c.args.conversion.now c.in-Err.end s0 s1 k)
+    subst (GivesWriteFault (Ok (request.Convert c.args.conversion.now)) s0 s1 k k) (sym c.ended_by.ensures)
+    (exit_write_fault c.args.conversion.now c.in-Err.end s0 s1 k)
 
 pub returns-in-Err-clause-memory : goal.returns-in-Err-clause-memory
 returns-in-Err-clause-memory g c =
     let s0 = g.In.Source.shown c.args.input.now in
     let s1 = g.In.Source.shown c.input_header.new.input in
     let k = g.Out.Sink.shown c.args.output.now in
-    subst (GivesOutOfMemory (Ok (request.Convert c.args.conversion.now)) s0 s1 k k) (sym c.ended_by.ensures) (exit_memory c.args.conversion.now c.in-Err.end s0 s1 k)
+    subst (GivesOutOfMemory (Ok (request.Convert c.args.conversion.now)) s0 s1 k k) (sym c.ended_by.ensures)
+    (exit_memory c.args.conversion.now c.in-Err.end s0 s1 k)
 
 pub returns-in-Err-clause-complete : goal.returns-in-Err-clause-complete
 returns-in-Err-clause-complete g c =
@@ -54,7 +58,8 @@ returns-in-Err-write_all-clause-write_fault g c =
     let k0 = g.Out.Sink.shown c.args.output.now in
     let k1 = g.Out.Sink.shown c.write_all.new.output in
     header_write_fault conversion header stream.converter (length stream.frame.items) s0 s1 k0 k1 c.in-Err-write_all.ensures.cause.failed
-    (meets_told conversion header stream.converter (length stream.frame.items) s0.bytes s1.bytes c.in-Ok-prepare.ensures.converter c.in-Ok-prepare.ensures.frame c.in-Ok.ensures.header)
+    (meets_told conversion header stream.converter (length stream.frame.items) s0.bytes s1.bytes c.in-Ok-prepare.ensures.converter
+    c.in-Ok-prepare.ensures.frame c.in-Ok.ensures.header)
     (subst (WritesPart k0 k1) (c.deref.ensures.value ∙ c.in-Ok-prepare.ensures.text) c.in-Err-write_all.ensures.part_written)
 
 pub convert_frames-requires-clause-some : goal.convert_frames-requires-clause-some
@@ -84,9 +89,11 @@ returns-clause-answer g c =
     let k0 = g.Out.Sink.shown c.args.output.now in
     let k1 = g.Out.Sink.shown c.write_all.new.output in
     let k2 = g.Out.Sink.shown c.convert_frames.new.output in
-    let told = meets_told conversion header stream.converter n s0.bytes s1.bytes c.in-Ok-prepare.ensures.converter long c.in-Ok.ensures.header in
+    let told = meets_told conversion header stream.converter n s0.bytes s1.bytes c.in-Ok-prepare.ensures.converter long
+    c.in-Ok.ensures.header in
     let wrote = subst (Writes k0 k1) (c.deref.ensures.value ∙ c.in-Ok-prepare.ensures.text) c.in-Ok-write_all.ensures.written in
-    answer_lift conversion header stream.converter n s0 s1 s2 k0 k1 k2 c.convert_frames.result c.in-Ok-prepare.ensures.converter.source_form told wrote c.convert_frames.ensures.answer
+    answer_lift conversion header stream.converter n s0 s1 s2 k0 k1 k2 c.convert_frames.result
+    c.in-Ok-prepare.ensures.converter.source_form told wrote c.convert_frames.ensures.answer
 
 pub returns-clause-read_fault : goal.returns-clause-read_fault
 returns-clause-read_fault g c =
@@ -101,10 +108,12 @@ returns-clause-read_fault g c =
     let k0 = g.Out.Sink.shown c.args.output.now in
     let k1 = g.Out.Sink.shown c.write_all.new.output in
     let k2 = g.Out.Sink.shown c.convert_frames.new.output in
-    let told = meets_told conversion header stream.converter n s0.bytes s1.bytes c.in-Ok-prepare.ensures.converter long c.in-Ok.ensures.header in
+    let told = meets_told conversion header stream.converter n s0.bytes s1.bytes c.in-Ok-prepare.ensures.converter long
+    c.in-Ok.ensures.header in
     let wrote = subst (Writes k0 k1) (c.deref.ensures.value ∙ c.in-Ok-prepare.ensures.text) c.in-Ok-write_all.ensures.written in
     let quiet : HasNoFault s0 s1 = record { faults = c.in-Ok.ensures.cause.kept; made = c.in-Ok.ensures.cause.made } in
-    read_lift conversion header stream.converter n s0 s1 s2 k0 k1 k2 c.convert_frames.result quiet told wrote c.convert_frames.ensures.read_fault
+    read_lift conversion header stream.converter n s0 s1 s2 k0 k1 k2 c.convert_frames.result quiet told wrote
+    c.convert_frames.ensures.read_fault
 
 pub returns-clause-write_fault : goal.returns-clause-write_fault
 returns-clause-write_fault g c =
@@ -119,10 +128,12 @@ returns-clause-write_fault g c =
     let k0 = g.Out.Sink.shown c.args.output.now in
     let k1 = g.Out.Sink.shown c.write_all.new.output in
     let k2 = g.Out.Sink.shown c.convert_frames.new.output in
-    let told = meets_told conversion header stream.converter n s0.bytes s1.bytes c.in-Ok-prepare.ensures.converter long c.in-Ok.ensures.header in
+    let told = meets_told conversion header stream.converter n s0.bytes s1.bytes c.in-Ok-prepare.ensures.converter long
+    c.in-Ok.ensures.header in
     let wrote = subst (Writes k0 k1) (c.deref.ensures.value ∙ c.in-Ok-prepare.ensures.text) c.in-Ok-write_all.ensures.written in
     let quiet : HasNoFault k0 k1 = record { faults = c.in-Ok-write_all.ensures.cause.kept; made = c.in-Ok-write_all.ensures.cause.made } in
-    write_lift conversion header stream.converter n s0 s1 s2 k0 k1 k2 c.convert_frames.result quiet told wrote c.convert_frames.ensures.write_fault
+    write_lift conversion header stream.converter n s0 s1 s2 k0 k1 k2 c.convert_frames.result quiet told wrote
+    c.convert_frames.ensures.write_fault
 
 pub returns-clause-complete : goal.returns-clause-complete
 returns-clause-complete g c =
@@ -130,11 +141,14 @@ returns-clause-complete g c =
     let s1 = g.In.Source.shown c.input_header.new.input in
     let k0 = g.Out.Sink.shown c.args.output.now in
     let k1 = g.Out.Sink.shown c.write_all.new.output in
-    complete_lift s0 s1 (g.In.Source.shown c.convert_frames.new.input) k0 k1 (g.Out.Sink.shown c.convert_frames.new.output) c.convert_frames.result
+    complete_lift s0 s1 (g.In.Source.shown c.convert_frames.new.input) k0 k1
+    (g.Out.Sink.shown c.convert_frames.new.output) c.convert_frames.result
     (record { faults = c.in-Ok.ensures.cause.kept; made = c.in-Ok.ensures.cause.made })
-    (record { faults = c.in-Ok-write_all.ensures.cause.kept; made = c.in-Ok-write_all.ensures.cause.made }) c.convert_frames.ensures.complete
+    (record { faults = c.in-Ok-write_all.ensures.cause.kept; made = c.in-Ok-write_all.ensures.cause.made })
+    c.convert_frames.ensures.complete
 
 pub returns-clause-memory : goal.returns-clause-memory
 returns-clause-memory g c =
     no_memory_lift c.args.conversion.now (g.In.Source.shown c.args.input.now) (g.In.Source.shown c.convert_frames.new.input)
-    (g.Out.Sink.shown c.args.output.now) (g.Out.Sink.shown c.convert_frames.new.output) c.convert_frames.result c.convert_frames.ensures.memory
+    (g.Out.Sink.shown c.args.output.now) (g.Out.Sink.shown c.convert_frames.new.output) c.convert_frames.result
+    c.convert_frames.ensures.memory

@@ -6,4 +6,5 @@ use Rattle.sws_run.proofs.convert.prepare.Goals as goal
 pub returns-clause-frame : goal.returns-clause-frame
 unfolding source_length
 returns-clause-frame c =
-    c.in_ok-frame.ensures ∙ c.frame_len.ensures.value ∙ ap (λ d. frame_length d c.args.header.width c.args.header.height) c.desc.ensures.value
+    c.in_ok-frame.ensures ∙ c.frame_len.ensures.value ∙ ap (λ d. frame_length d c.args.header.width c.args.header.height)
+    c.desc.ensures.value

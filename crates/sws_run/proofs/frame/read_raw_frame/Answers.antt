@@ -34,5 +34,6 @@ returns-in-Err-clause-read_fault g c =
     let n = part.0 in
     let small : n < length frame = part.1 in
     let long : length (take n frame) ≡ n = length-take-le n frame (omega (arith, small)) in
-    told_map _ _ (λ x y. x ≡ take n frame ++ y) (TakesPiece Raw (length frame)) (λ x y e. raw_part (take n frame) x y n (length frame) e long small)
+    told_map _ _ (λ x y. x ≡ take n frame ++ y) (TakesPiece Raw (length frame))
+    (λ x y e. raw_part (take n frame) x y n (length frame) e long small)
     (told_takes (g.In.Source.shown c.args.input.now) (g.In.Source.shown c.read_whole.new.input) (take n frame) part.2)

@@ -14,7 +14,8 @@ returns-in-Err-clause-fault g c = line_piece (g.In.Source.shown c.args.input.now
 
 pub returns-in-Err-clause-read_fault : goal.returns-in-Err-clause-read_fault
 returns-in-Err-clause-read_fault g c =
-    open_told FrameLine Next (g.In.Source.shown c.args.input.now) (g.In.Source.shown c.read_frame_line.new.input) _ c.in-Err.end c.in-Err.ensures.read_fault
+    open_told FrameLine Next (g.In.Source.shown c.args.input.now)
+    (g.In.Source.shown c.read_frame_line.new.input) _ c.in-Err.end c.in-Err.ensures.read_fault
 
 pub returns-in-Ok-Whole-clause-next : goal.returns-in-Ok-Whole-clause-next
 returns-in-Ok-Whole-clause-next g c =
@@ -36,7 +37,8 @@ returns-in-Ok-End-read_whole-clause-fault g c =
     let line = rw c.in-Ok-Frame.field-0-is at c.in-Ok-Frame.ensures.line in
     let taken = rw c.in-Ok-End-read_whole.field-0-is at c.in-Ok-End-read_whole.ensures.taken in
     told_now old.bytes mid.bytes HasLine (λ y. y ≡ []) (λ x. piece_cut Y4m (length frame) x ≡ Faulty Truncated)
-    (λ x y l e. short_behind Y4m l.size (length frame) x y l.is l.behind (omega (arith, ap length e))) (line_told old mid (line refl)) (takes_all mid new [] taken.0 taken.1)
+    (λ x y l e. short_behind Y4m l.size (length frame) x y l.is l.behind (omega (arith, ap length e))) (line_told old mid (line refl))
+    (takes_all mid new [] taken.0 taken.1)
 
 pub returns-in-Ok-Short-clause-fault : goal.returns-in-Ok-Short-clause-fault
 returns-in-Ok-Short-clause-fault g c =
@@ -51,7 +53,8 @@ returns-in-Ok-Short-clause-fault g c =
     let small : m < length frame = range.1 in
     let long : length (take m frame) ≡ m = length-take-le m frame (omega (arith, small)) in
     told_now old.bytes mid.bytes HasLine (λ y. y ≡ take m frame) (λ x. piece_cut Y4m (length frame) x ≡ Faulty Truncated)
-    (λ x y l e. short_behind Y4m l.size (length frame) x y l.is l.behind (omega (arith, ap length e, long, small))) (line_told old mid (line refl))
+    (λ x y l e. short_behind Y4m l.size (length frame) x y l.is l.behind (omega (arith, ap length e, long, small)))
+    (line_told old mid (line refl))
     (takes_all mid new (take m frame) taken.0 taken.1)
 
 pub returns-in-Err-read_whole-clause-read_fault : goal.returns-in-Err-read_whole-clause-read_fault
@@ -66,4 +69,5 @@ returns-in-Err-read_whole-clause-read_fault g c =
     let small : n < length frame = part.1 in
     let long : length (take n frame) ≡ n = length-take-le n frame (omega (arith, small)) in
     told_then old.bytes mid.bytes new.bytes HasLine (λ x y. x ≡ take n frame ++ y) (TakesPiece Y4m (length frame))
-    (λ x y z l e. part_behind Y4m l.size n x y z (take n frame) (length frame) l.is l.behind e long small) (line_told old mid (line refl)) (told_takes mid new (take n frame) part.2)
+    (λ x y z l e. part_behind Y4m l.size n x y z (take n frame) (length frame) l.is l.behind e long small) (line_told old mid (line refl))
+    (told_takes mid new (take n frame) part.2)

@@ -11,4 +11,5 @@ returns-in-Ok-clause-part g c =
     let new = g.Out.Sink.shown c.write_all-in-Ok.new.output in
     let frame = c.args.frame.now in
     on_err_map c.write_all-in-Ok.result (WritesPart mid new frame) (WritesPart old new (front_in c.args.form ++ frame))
-    (part_more old mid new (front_in c.args.form) frame (rw (← c.front.ensures) c.in-Ok.ensures.written)) c.write_all-in-Ok.ensures.part_written
+    (part_more old mid new (front_in c.args.form) frame (rw (← c.front.ensures) c.in-Ok.ensures.written))
+    c.write_all-in-Ok.ensures.part_written

@@ -5,4 +5,5 @@ use Rattle.sws_run.proofs.request.request_of.Goals as goal
 
 pub returns-in_ok-conversion_of-in-Convert-clause-sound : goal.returns-in_ok-conversion_of-in-Convert-clause-sound
 returns-in_ok-conversion_of-in-Convert-clause-sound c =
-    subst (λ r. IfOk r IsSoundConversion) (sym c.in_ok-conversion_of-in-Convert.ensures.value) (sound_conversion c.in-Convert.asked (rw c.in-Convert.is at c.requires))
+    subst (λ r. IfOk r IsSoundConversion) (sym c.in_ok-conversion_of-in-Convert.ensures.value)
+    (sound_conversion c.in-Convert.asked (rw c.in-Convert.is at c.requires))

@@ -3,13 +3,15 @@ use Rattle.pix_io.proofs.Calls.{Rose-after}
 use Rattle.sws_run.specs.Cut.{Clean, TooMany, Broken, Faulty, piece_cut, last_end, most_frames}
 use Rattle.sws_run.specs.Output.{front_in}
 use Rattle.sws_run.specs.Frames.{IfTold, TakesPiece, text_by}
-use Rattle.sws_run.proofs.Runs.{start_place, start_texts, end_nothing, end_faulty, end_last, ends_as, texts_whole, stops_in_part, stops_at_last, text_is, next_place, has_text, next_texts, stops_writing, IsBehindFrames, WritesTexts}
+use Rattle.sws_run.proofs.Runs.{start_place, start_texts, end_nothing, end_faulty, end_last, ends_as, texts_whole, stops_in_part}
+use Rattle.sws_run.proofs.Runs.{stops_at_last, text_is, next_place, has_text, next_texts, stops_writing, IsBehindFrames, WritesTexts}
 use Rattle.sws_run.proofs.run.convert_frames.Goals as goal
 
 pub loop-done-init : goal.loop-done-init
 loop-done-init g c = record {
   place = start_place c.args.converter.now (length c.args.frame.now) (g.In.Source.shown c.args.input.now).bytes;
-  written = start_texts c.args.converter.now (length c.args.frame.now) (g.In.Source.shown c.args.input.now).bytes (g.Out.Sink.shown c.args.output.now);
+  written = start_texts c.args.converter.now (length c.args.frame.now) (g.In.Source.shown c.args.input.now).bytes
+      (g.Out.Sink.shown c.args.output.now);
   reads = search rules;
   writes = search rules;
 }
@@ -21,11 +23,13 @@ returns-in-Ok-End-clause-answer g c =
     let k = c.loop-done.done in
     let a = (g.In.Source.shown c.args.input.now).bytes in
     let next = rw c.in-Ok-End.field-0-is at c.in-Ok-End.ensures.next in
-    let frames = end_nothing converter size k a (g.In.Source.shown c.loop-done.input).bytes c.loop-done-test.true c.loop-done.invariant.place next.0 in
+    let frames = end_nothing converter size k a (g.In.Source.shown c.loop-done.input).bytes c.loop-done-test.true
+    c.loop-done.invariant.place next.0 in
     record {
       known = λ _. omega arith;
       ending = λ _. ends_as converter size k Clean a frames;
-      output = λ _. texts_whole converter size k Clean a (g.Out.Sink.shown c.args.output.now) (g.Out.Sink.shown c.loop-done.output) frames c.loop-done.invariant.written;
+      output = λ _. texts_whole converter size k Clean a (g.Out.Sink.shown c.args.output.now)
+          (g.Out.Sink.shown c.loop-done.output) frames c.loop-done.invariant.written;
       read = next.1;
     }
 
@@ -45,7 +49,8 @@ returns-in-Err-Stream-clause-answer g c =
     record {
       known = λ _. inr (known, c.loop-done-test.true);
       ending = λ _. ends_as converter size k (Broken fault) a frames;
-      output = λ _. texts_whole converter size k (Broken fault) a (g.Out.Sink.shown c.args.output.now) (g.Out.Sink.shown c.loop-done.output) frames c.loop-done.invariant.written;
+      output = λ _. texts_whole converter size k (Broken fault) a (g.Out.Sink.shown c.args.output.now)
+          (g.Out.Sink.shown c.loop-done.output) frames c.loop-done.invariant.written;
       read = tt;
     }
 
@@ -59,9 +64,12 @@ returns-in-Err-ReadFault-clause-read_fault g c =
     let part = rw c.in-Err-ReadFault.field-0-is at c.in-Err-ReadFault.ensures.read_fault in
     let long : length c.read_frame.new.frame ≡ size = omega arith in
     record {
-      cause = Rose-after _ _ _ c.loop-done.invariant.reads.faults (rw c.in-Err-ReadFault.field-0-is at c.in-Err-ReadFault.ensures.cause).failed;
-      place = stops_in_part converter size c.loop-done.done a b d (g.Out.Sink.shown c.args.output.now) (g.Out.Sink.shown c.loop-done.output) c.loop-done-test.true
-          c.loop-done.invariant.place (subst (λ n. IfTold b d (TakesPiece converter.source_form n)) long part) c.loop-done.invariant.written;
+      cause = Rose-after _ _ _ c.loop-done.invariant.reads.faults
+          (rw c.in-Err-ReadFault.field-0-is at c.in-Err-ReadFault.ensures.cause).failed;
+      place = stops_in_part converter size c.loop-done.done a b d (g.Out.Sink.shown c.args.output.now)
+          (g.Out.Sink.shown c.loop-done.output) c.loop-done-test.true
+          c.loop-done.invariant.place (subst (λ n. IfTold b d (TakesPiece converter.source_form n)) long part)
+          c.loop-done.invariant.written;
     }
 
 pub returns-in-Err-clause-write_fault : goal.returns-in-Err-clause-write_fault
@@ -74,11 +82,13 @@ returns-in-Err-clause-write_fault g c =
     let target = c.convert_rows.new.output in
     let next = rw c.in-Ok-Frame.field-0-is at c.in-Ok-Frame.ensures.next in
     let long : length frame ≡ size = omega arith in
-    let has = has_text converter size k frame a (g.In.Source.shown c.loop-done.input).bytes (g.In.Source.shown c.read_frame.new.input).bytes c.loop-done-test.true long c.loop-done.invariant.place next in
+    let has = has_text converter size k frame a (g.In.Source.shown c.loop-done.input).bytes
+    (g.In.Source.shown c.read_frame.new.input).bytes c.loop-done-test.true long c.loop-done.invariant.place next in
     let part = rw (text_is converter frame target c.convert_rows.ensures) at c.in-Err.ensures.part in
     record {
       cause = search rules;
-      place = stops_writing converter size k (text_by converter frame) a (g.Out.Sink.shown c.args.output.now) (g.Out.Sink.shown c.loop-done.output) (g.Out.Sink.shown c.write_frame.new.output)
+      place = stops_writing converter size k (text_by converter frame) a (g.Out.Sink.shown c.args.output.now)
+          (g.Out.Sink.shown c.loop-done.output) (g.Out.Sink.shown c.write_frame.new.output)
           has c.loop-done.invariant.written part;
     }
 
@@ -98,7 +108,8 @@ loop-done-preserved g c =
     let text = rw (text_is converter frame target c.convert_rows.ensures) at c.in-Ok.ensures.written in
     record {
       place = next_place converter size k frame a b d c.loop-done-test.true long c.loop-done.invariant.place next;
-      written = next_texts converter size k (text_by converter frame) a (g.Out.Sink.shown c.args.output.now) (g.Out.Sink.shown c.loop-done.output) (g.Out.Sink.shown c.write_frame.new.output)
+      written = next_texts converter size k (text_by converter frame) a (g.Out.Sink.shown c.args.output.now)
+          (g.Out.Sink.shown c.loop-done.output) (g.Out.Sink.shown c.write_frame.new.output)
           has c.loop-done.invariant.written text;
       reads = search rules;
       writes = search rules;
@@ -116,7 +127,8 @@ returns-in-Ok-true-clause-answer g c =
     record {
       known = λ _. omega arith;
       ending = λ _. ends_as converter size most_frames Clean a frames;
-      output = λ _. texts_whole converter size most_frames Clean a (g.Out.Sink.shown c.args.output.now) (g.Out.Sink.shown c.loop-done.output) frames (rw k at c.loop-done.invariant.written);
+      output = λ _. texts_whole converter size most_frames Clean a (g.Out.Sink.shown c.args.output.now)
+          (g.Out.Sink.shown c.loop-done.output) frames (rw k at c.loop-done.invariant.written);
       read = search rules;
     }
 
@@ -132,7 +144,8 @@ returns-in-Ok-false-clause-answer g c =
     record {
       known = λ _. tt;
       ending = λ _. ends_as converter size most_frames TooMany a frames;
-      output = λ _. texts_whole converter size most_frames TooMany a (g.Out.Sink.shown c.args.output.now) (g.Out.Sink.shown c.loop-done.output) frames (rw k at c.loop-done.invariant.written);
+      output = λ _. texts_whole converter size most_frames TooMany a (g.Out.Sink.shown c.args.output.now)
+          (g.Out.Sink.shown c.loop-done.output) frames (rw k at c.loop-done.invariant.written);
       read = tt;
     }
 

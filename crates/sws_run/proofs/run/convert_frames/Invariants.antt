@@ -7,8 +7,10 @@ use Rattle.sws_run.proofs.run.convert_frames.Given as goal
 
 abbrev pub invariant-loop-done : goal.invariant-loop-done
 invariant-loop-done g l = record {
-  place : IfTold (g.In.Source.shown l.fn.input).bytes (g.In.Source.shown l.input).bytes (IsBehindFrames l.converter (length l.fn.frame) l.done);
-  written : IfSome (g.In.Source.shown l.fn.input).bytes (WritesTexts l.converter (length l.fn.frame) (g.Out.Sink.shown l.fn.output) (g.Out.Sink.shown l.output) l.done);
+  place : IfTold (g.In.Source.shown l.fn.input).bytes (g.In.Source.shown l.input).bytes
+      (IsBehindFrames l.converter (length l.fn.frame) l.done);
+  written : IfSome (g.In.Source.shown l.fn.input).bytes (WritesTexts l.converter (length l.fn.frame) (g.Out.Sink.shown l.fn.output)
+      (g.Out.Sink.shown l.output) l.done);
   reads : HasNoFault (g.In.Source.shown l.fn.input) (g.In.Source.shown l.input);
   writes : HasNoFault (g.Out.Sink.shown l.fn.output) (g.Out.Sink.shown l.output);
 }

@@ -13,4 +13,5 @@ pub returns-clause-write_fault : goal.returns-clause-write_fault
 returns-clause-write_fault g c = λ source.
     let k0 = g.Out.Sink.shown c.args.output.now in
     let k1 = g.Out.Sink.shown c.write_all.new.output in
-    list_write_fault source k0 k1 c.in-Err.ensures.cause.failed (subst (WritesPart k0 k1) (c.as_bytes.ensures.value ∙ c.in-Ok.ensures) c.in-Err.ensures.part_written)
+    list_write_fault source k0 k1 c.in-Err.ensures.cause.failed (subst (WritesPart k0 k1)
+    (c.as_bytes.ensures.value ∙ c.in-Ok.ensures) c.in-Err.ensures.part_written)
