@@ -1,6 +1,6 @@
 -- A run that converts nothing: its words are refused, or it lists the formats.
-use Rattle.std.proofs.Common.{◌≡◌, true, false, Bool, ℕ, ◌<◌, List, [], ◌++◌, length, take, Result, Ok, Err, refl, sym, ap, ◌∙◌, subst}
-use Rattle.std.proofs.Common.{arith, append-nil, nat_le, if◌then◌else◌}
+use Rattle.std.proofs.Common.{◌≡◌, true, false, Bool, ℕ, ◌<◌, [], ◌++◌, length, take, Result, Ok, Err, refl, sym, subst}
+use Rattle.std.proofs.Common.{append-nil, nat_le, if◌then◌else◌}
 use Rattle.pix_io.specs.Shown.{Shown}
 use Rattle.pix_io.specs.Faults.{Rose}
 use Rattle.pix_io.specs.Streams.{Writes, WritesPart}
@@ -11,7 +11,7 @@ use Rattle.sws_run.specs.declared.request.Request.{Request}
 use Rattle.sws_run.specs.declared.request.Request.TheVariants as request
 use Rattle.sws_run.specs.Ending.{IsRefusal}
 use Rattle.sws_run.specs.FormatList.{list_text}
-use Rattle.sws_run.specs.Output.{output_by, ending_by, text_of, frames_in}
+use Rattle.sws_run.specs.Output.{output_by, ending_by}
 use Rattle.sws_run.specs.Run.{GivesAnswer, GivesWriteFault}
 use Rattle.sws_run.proofs.Endings.{no_done}
 

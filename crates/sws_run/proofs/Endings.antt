@@ -1,5 +1,5 @@
 -- Facts about endings.
-use Rattle.std.proofs.Common.{◌≡◌, ℕ}
+use Rattle.std.proofs.Common.{ℕ}
 use Rattle.sws_run.specs.declared.ended.Ended.{Ended}
 use Rattle.sws_run.specs.declared.ended.Ended.TheVariants.{Done, ReadFault, WriteFault, OutOfMemory, Stream, Usage, Format, PaletteTarget}
 use Rattle.sws_run.specs.declared.ended.Ended.TheVariants.{TooManyFrames}

@@ -1,7 +1,7 @@
 -- A frame behind its line, as it is read.
-use Rattle.std.proofs.Common.{◌≡◌, true, false, Bool, ℕ, zero, suc, ◌+◌, ◌-◌, ◌<◌, ◌≤◌, List, [], ◌∷◌, ◌++◌, length, refl, sym, ap, ◌∙◌}
+use Rattle.std.proofs.Common.{◌≡◌, true, false, Bool, ℕ, ◌+◌, ◌<◌, ◌≤◌, List, [], ◌∷◌, ◌++◌, length, refl, sym, ap, ◌∙◌}
 use Rattle.std.proofs.Common.{arith, subst, take, drop, length-append, length-drop, length-take-le, take_at, drop_at, Result, Ok, Err, IfOk}
-use Rattle.std.proofs.Common.{OnErr, if◌then◌else◌, IfSome, append-nil, nat_le, nat_eq, nat_lt}
+use Rattle.std.proofs.Common.{OnErr, if◌then◌else◌, IfSome, nat_le}
 use Rattle.std.proofs.lemmas.Bool.Decides.{nat_tests}
 use Rattle.std.specs.declared.option.Option.{Option}
 use Rattle.std.specs.declared.option.Option.TheVariants.{None, Some}
@@ -24,7 +24,7 @@ use Rattle.y4m_io.specs.declared.fault.LineEnd.TheVariants as line
 use Rattle.y4m_io.specs.Reading.{line_fault, line_reads, header_reads, TakesOpen, TakesFrameLine}
 use Rattle.y4m_io.specs.Reading as reading
 use Rattle.y4m_io.proofs.LineShapes.{frame_line_cut-size, frame_line_cut-unfinished, header_cut-size, header_cut-unfinished}
-use Rattle.sws_run.specs.Cut.{Frame, Piece, Nothing, Whole, Faulty, front_cut, piece_behind, piece_cut}
+use Rattle.sws_run.specs.Cut.{Whole, Faulty, front_cut, piece_behind, piece_cut}
 use Rattle.sws_run.specs.Frames.{IfTold, IsBehind, IsShort, IsShortOf, TakesFrame, TakesPiece, TakesHeader, TakesHeaderPart}
 use Rattle.sws_run.proofs.Places.{behind_then}
 use Rattle.sws_run.proofs.Told.{some_map}

@@ -1,7 +1,7 @@
 -- From the frames of an input to the whole: the header of the input, and that of the output, stand before them.
-use Rattle.std.proofs.Common.{◌≡◌, true, false, ℕ, ◌+◌, ◌-◌, ◌<◌, ◌≤◌, List, [], ◌∷◌, ◌++◌, length, refl, sym, ap, ◌∙◌, arith, subst, map}
-use Rattle.std.proofs.Common.{take, drop, IfSome, Result, Ok, Err, OnErr, nat_le, if◌then◌else◌, length-append, length-drop, append-nil}
-use Rattle.std.proofs.Common.{◌⊎◌, inl, inr}
+use Rattle.std.proofs.Common.{◌≡◌, ℕ, ◌+◌, ◌-◌, ◌<◌, ◌≤◌, List, [], ◌∷◌, ◌++◌, length, refl, sym, ap, ◌∙◌, arith, subst, map}
+use Rattle.std.proofs.Common.{take, drop, IfSome, Result, Ok, Err, OnErr, length-append, length-drop}
+use Rattle.std.proofs.Common.{inl}
 use Rattle.std.proofs.lemmas.Bool.Decides.{nat_tests}
 use Rattle.std.proofs.Math.Seq.{take-append-add}
 use Rattle.std.proofs.lemmas.List.{take-append-le}
@@ -18,7 +18,6 @@ use Rattle.y4m_io.specs.declared.fault.HeaderEnd.TheVariants as header
 use Rattle.y4m_io.specs.declared.header.Header.{Header}
 use Rattle.y4m_io.specs.Reading.{header_fault, header_reads}
 use Rattle.y4m_io.specs.HeaderLine.{HeaderLine}
-use Rattle.pix_meaning.specs.Target.{target_frame}
 use Rattle.sws_run.specs.declared.ended.Ended.{Ended}
 use Rattle.sws_run.specs.declared.ended.Ended.TheVariants.{Stream, ReadFault, WriteFault}
 use Rattle.sws_run.specs.declared.request.Input.{Input}
@@ -27,17 +26,16 @@ use Rattle.sws_run.specs.declared.request.Conversion.{Conversion}
 use Rattle.sws_run.specs.declared.request.Request.TheVariants as request
 use Rattle.sws_run.specs.declared.run.Converter.{Converter}
 use Rattle.sws_run.specs.Request.{form_of}
-use Rattle.sws_run.specs.Cut.{Cut, Frame, Frames, End, Clean, Broken, cut, cut_after, cut_behind, header_line_cut, header_size}
+use Rattle.sws_run.specs.Cut.{Cut, Frame, Frames, End, Broken, cut, cut_after, cut_behind, header_line_cut}
 use Rattle.sws_run.specs.Cut.{source_length, frames_cut, most_frames, frames_within, whole_within}
-use Rattle.sws_run.specs.Output.{Output, header_of, header_in, front_in, frame_text, output_behind, output_for, input_by, output_by}
+use Rattle.sws_run.specs.Output.{Output, header_of, header_in, frame_text, output_for, input_by, output_by}
 use Rattle.sws_run.specs.Output.{ending_by, ending_at, text_after, text_of, text_for, frames_in}
-use Rattle.sws_run.specs.Sides.{pair_of}
 use Rattle.sws_run.specs.Frames.{IfTold, IsBehind, IsShortOf, TakesHeader, TakesHeaderPart, IsConverterOf, text_by, frames_by, texts_by}
 use Rattle.sws_run.specs.Frames.{EndsFrames, StopsReading, StopsWriting, ended_by}
 use Rattle.sws_run.specs.Ending.{CanEnd, IsOpeningFault, IfOutOfMemory}
 use Rattle.sws_run.specs.Run.{IfTaken, IsConversion, GivesAnswer, GivesReadFault, GivesWriteFault, GivesOutOfMemory, IsComplete}
 use Rattle.sws_run.proofs.Endings.{done_map, read_map, write_map, memory_map, unless_read_map, unless_write_map}
-use Rattle.sws_run.proofs.Told.{told_map, told_then, told_now, told_old, told_with, some_map, some_always}
+use Rattle.sws_run.proofs.Told.{told_map, told_then, told_now, told_old, some_map}
 use Rattle.sws_run.proofs.Places.{behind_then}
 
 -- ---- what an input is cut into, and what is put out for it

@@ -1,5 +1,5 @@
 -- What is made for a stream, once its header is known.
-use Rattle.std.proofs.Common.{◌≡◌, false, ℕ, ◌*◌, ◌<◌, ◌≤◌, length, refl, sym, ap, ◌∙◌, arith, subst}
+use Rattle.std.proofs.Common.{◌≡◌, false, ℕ, ◌*◌, ◌<◌, refl, arith}
 use Rattle.std.proofs.Math.Nat.{mul-pos}
 use Rattle.pix_desc.specs.declared.desc.Desc.{Desc}
 use Rattle.pix_desc.specs.Component.{component_of}

@@ -1,15 +1,15 @@
 -- A place in the input behind its first k frames.
-use Rattle.std.proofs.Common.{◌≡◌, ℕ, zero, suc, ◌+◌, ◌-◌, ◌<◌, ◌≤◌, List, [], ◌∷◌, ◌++◌, length, refl, sym, ap, ◌∙◌, arith, subst, map}
-use Rattle.std.proofs.Common.{take, drop, length-drop, add-one}
+use Rattle.std.proofs.Common.{◌≡◌, ℕ, suc, ◌+◌, ◌-◌, ◌<◌, ◌≤◌, List, [], length, refl, sym, ap, ◌∙◌, arith, subst}
+use Rattle.std.proofs.Common.{take, drop, length-drop}
 use Rattle.std.proofs.lemmas.List.{drop-drop}
 use Rattle.std.specs.List.{sum_by}
 use Rattle.sws_words.specs.declared.task.Form.{Form}
 use Rattle.sws_words.specs.declared.task.Form.TheVariants.{Raw, Y4m}
 use Rattle.y4m_io.specs.declared.fault.StreamFault.{StreamFault}
 use Rattle.y4m_io.specs.FrameLine.{frame_line_cut}
-use Rattle.sws_run.specs.Cut.{Frame, Frames, Piece, Nothing, Whole, Faulty, End, Clean, TooMany, Broken, piece_cut, frames_cut, with_frame}
+use Rattle.sws_run.specs.Cut.{Frame, Frames, Piece, Nothing, Whole, Faulty, End, Clean, Broken, piece_cut, frames_cut, with_frame}
 use Rattle.sws_run.specs.Cut.{last_end, whole_within}
-use Rattle.sws_run.specs.Frames.{IsBehind, IsShort, TakesPiece}
+use Rattle.sws_run.specs.Frames.{IsBehind, IsShort}
 use Rattle.sws_run.proofs.Parts.{StandsAt, stands_at, ends_at, sum-next, whole-at}
 use Rattle.sws_run.proofs.Whole.{IsBelowFirst}
 

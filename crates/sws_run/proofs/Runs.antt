@@ -1,6 +1,6 @@
 -- The run over the frames of an input, at each of its exits.
-use Rattle.std.proofs.Common.{◌≡◌, ℕ, zero, suc, ◌+◌, ◌-◌, ◌<◌, ◌≤◌, List, [], ◌∷◌, ◌++◌, length, refl, sym, ap, ◌∙◌, arith, subst, map}
-use Rattle.std.proofs.Common.{take, drop, IfSome, append-nil}
+use Rattle.std.proofs.Common.{◌≡◌, ℕ, ◌+◌, ◌<◌, List, [], ◌++◌, length, sym, ap, ◌∙◌, arith, subst, map}
+use Rattle.std.proofs.Common.{take, IfSome}
 use Rattle.std.proofs.lemmas.List.{drop-map, length-map}
 use Rattle.std.proofs.Math.Seq.{take-length}
 use Rattle.std.specs.List.{sum_by, concat}
@@ -11,12 +11,12 @@ use Rattle.pix_io.proofs.Calls.{Writes-trans, Writes-nil}
 use Rattle.pix_meaning.specs.Target.{target_frame}
 use Rattle.y4m_io.specs.declared.fault.StreamFault.{StreamFault}
 use Rattle.sws_run.specs.declared.run.Converter.{Converter}
-use Rattle.sws_run.specs.Cut.{Frame, Frames, End, Clean, TooMany, Broken, Whole, Faulty, piece_cut, frames_cut, last_end, most_frames}
+use Rattle.sws_run.specs.Cut.{Frame, Frames, End, Clean, Broken, Whole, Faulty, piece_cut, last_end, most_frames}
 use Rattle.sws_run.specs.Cut.{whole_within}
 use Rattle.sws_run.specs.Output.{ending_at, front_in}
 use Rattle.sws_run.specs.Frames.{IfTold, IsBehind, TakesFrame, TakesPiece, text_by, frames_by, texts_by}
-use Rattle.sws_run.proofs.Told.{some_map, some_map2, some_always, told_map, told_then, told_now, told_same, told_with, told_old}
-use Rattle.sws_run.proofs.Parts.{StandsAt, stands_at, concat-next, EndsIn, ends_in}
+use Rattle.sws_run.proofs.Told.{some_map, some_map2, some_always, told_then, told_now, told_same, told_with, told_old}
+use Rattle.sws_run.proofs.Parts.{StandsAt, stands_at, concat-next, ends_in}
 use Rattle.sws_run.proofs.Places.{IsAt, at_start, at_frame, at_next, at_nothing, at_faulty, at_last, at_part, at_million, behind_then}
 use Rattle.sws_run.proofs.Places.{behind_none}
 

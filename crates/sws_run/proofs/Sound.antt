@@ -1,7 +1,6 @@
 -- What words ask for is sound.
-use Rattle.std.proofs.Common.{◌≡◌, true, false, Bool, ℕ, ◌<◌, not, List, map, Result, Ok, Err, IfOk, IfSome, if◌then◌else◌, refl, sym, ap}
-use Rattle.std.proofs.Common.{◌∙◌, subst, arith, nat_lt, slice_index_or}
-use Rattle.std.proofs.lemmas.Bool.Decides.{nat_tests}
+use Rattle.std.proofs.Common.{◌≡◌, true, false, Bool, ℕ, ◌<◌, not, map, Result, Ok, Err, IfOk, IfSome, if◌then◌else◌, refl, sym, ap}
+use Rattle.std.proofs.Common.{◌∙◌}
 use Rattle.std.specs.Prelude.{codes}
 use Rattle.std.specs.List.{list_any}
 use Rattle.std.specs.Option.{is_some}
@@ -9,7 +8,7 @@ use Rattle.std.specs.Str.{bytes_eq}
 use Rattle.std.specs.declared.option.Option.{Option}
 use Rattle.std.specs.declared.option.Option.TheVariants.{None, Some}
 use Rattle.desc_table.specs.declared.fault.FormatFault.{FormatFault}
-use Rattle.desc_table.specs.Format.{Format, formats, format_count, format_at, desc_of, name_of}
+use Rattle.desc_table.specs.Format.{formats, format_count, desc_of}
 use Rattle.desc_table.proofs.Rows.{agree_at_row}
 use Rattle.sws_words.specs.declared.task.Form.{Form}
 use Rattle.sws_words.specs.declared.task.Form.TheVariants.{Raw, Y4m}
@@ -23,10 +22,9 @@ use Rattle.y4m_io.specs.StreamFormats.{colour_spaces, text_of_name}
 use Rattle.y4m_io.specs.StreamFormats as stream
 use Rattle.sws_run.specs.declared.ended.Ended.{Ended}
 use Rattle.sws_run.specs.declared.ended.Ended.TheVariants.{PaletteTarget}
-use Rattle.sws_run.specs.declared.ended.SideName.TheVariants.{In, Out}
+use Rattle.sws_run.specs.declared.ended.SideName.TheVariants.{In}
 use Rattle.sws_run.specs.declared.request.Input.{Input}
-use Rattle.sws_run.specs.declared.request.Conversion.{Conversion}
-use Rattle.sws_run.specs.Request.{format_of, raw_input, input_of, plain, target_of, conversion_with, conversion_of, IsSoundInput, HasForm}
+use Rattle.sws_run.specs.Request.{format_of, raw_input, input_of, target_of, conversion_with, conversion_of, IsSoundInput, HasForm}
 use Rattle.sws_run.specs.Request.{IsSoundConversion}
 
 -- ---- the formats of a stream are the same for the words and for the stream

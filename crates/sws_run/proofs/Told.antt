@@ -1,5 +1,5 @@
 -- Facts of bytes where they are told.
-use Rattle.std.proofs.Common.{◌≡◌, ℕ, List, [], ◌++◌, IfSome, ◌∙◌, ap, append-nil}
+use Rattle.std.proofs.Common.{◌≡◌, ℕ, List, ◌++◌, IfSome, ◌∙◌, ap, append-nil}
 use Rattle.std.specs.declared.option.Option.{Option}
 use Rattle.std.specs.declared.option.Option.TheVariants.{None, Some}
 use Rattle.std.specs.Io.KnownBytes.{Consumes, IsAtEnd}

@@ -1,5 +1,5 @@
 -- Bytes that are written in several calls.
-use Rattle.std.proofs.Common.{◌≡◌, ℕ, ◌+◌, ◌<◌, List, ◌++◌, length, take, Result, Ok, Err, OnErr, sym, ap, arith, subst, length-append}
+use Rattle.std.proofs.Common.{ℕ, ◌+◌, ◌<◌, List, ◌++◌, length, take, Result, Ok, Err, OnErr, sym, arith, subst, length-append}
 use Rattle.std.proofs.Math.Seq.{take-append-add}
 use Rattle.pix_io.specs.Shown.{Shown}
 use Rattle.pix_io.specs.Streams.{Writes, WritesPart}

@@ -1,5 +1,5 @@
 -- The input is data: it is cut into what stands before its frames, its frames, and an end.
-use Rattle.std.specs.Prelude.{ℕ, zero, suc, ◌+◌, ◌-◌, List, [], ◌∷◌, length, take, drop, map, Option, None, Some, Result, Ok, Err, nat_le}
+use Rattle.std.specs.Prelude.{ℕ, zero, suc, ◌+◌, ◌-◌, List, [], ◌∷◌, length, take, drop, Option, None, Some, Result, Ok, Err, nat_le}
 use Rattle.std.specs.Prelude.{if◌then◌else◌}
 use Rattle.pix_desc.specs.Frame.{frame_length}
 use Rattle.desc_table.specs.Format.{desc_of}

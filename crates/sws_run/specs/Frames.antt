@@ -23,7 +23,7 @@ use Rattle.sws_run.specs.declared.request.Conversion.{Conversion}
 use Rattle.sws_run.specs.declared.run.Converter.{Converter}
 use Rattle.sws_run.specs.Request.{form_of}
 use Rattle.sws_run.specs.Sides.{pair_of}
-use Rattle.sws_run.specs.Cut.{Frame, Frames, Piece, Nothing, Whole, Faulty, End, Clean, TooMany, header_line_cut, piece_cut, frames_cut}
+use Rattle.sws_run.specs.Cut.{Frames, Piece, Nothing, Whole, Faulty, End, Clean, TooMany, header_line_cut, piece_cut, frames_cut}
 use Rattle.sws_run.specs.Cut.{most_frames, whole_within}
 use Rattle.sws_run.specs.Ending.{IsDecided, CanEnd, IfDone, IfReadFault, IfWriteFault}
 use Rattle.sws_run.specs.Output.{ending_at, front_in}

@@ -1,7 +1,6 @@
 -- The two sides of a conversion.
-use Rattle.std.specs.Prelude.{ℕ, Option, None, Some, unwrap_or}
+use Rattle.std.specs.Prelude.{unwrap_or}
 use Rattle.std.specs.Option.{option_or}
-use Rattle.colour_matrix.specs.declared.class.Range.{Range}
 use Rattle.pix_meaning.specs.declared.pair.Side.{Side}
 use Rattle.pix_meaning.specs.declared.pair.Pair.{Pair}
 use Rattle.row_plan.specs.Evaluated.{side_at}

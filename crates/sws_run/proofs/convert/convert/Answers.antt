@@ -1,5 +1,5 @@
-use Rattle.std.proofs.Common.{◌≡◌, ◌<◌, length, Ok, sym, ap, ◌∙◌, subst, arith}
-use Rattle.pix_io.specs.Faults.{HasNoFault, Rose}
+use Rattle.std.proofs.Common.{◌≡◌, length, Ok, sym, ap, ◌∙◌, subst, arith}
+use Rattle.pix_io.specs.Faults.{HasNoFault}
 use Rattle.pix_io.specs.Streams.{Writes, WritesPart}
 use Rattle.sws_run.specs.Cut.{source_length}
 use Rattle.sws_run.proofs.Opened.{opening_some, source_length_is, target_length_is}

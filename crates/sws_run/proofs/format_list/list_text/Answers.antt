@@ -1,4 +1,4 @@
-use Rattle.std.proofs.Common.{◌≡◌, ◌∙◌, ◌++◌, ◌+◌, ap, sym, arith, rules, string_bytes}
+use Rattle.std.proofs.Common.{◌≡◌, ◌∙◌, ◌++◌, ap, sym, arith, rules, string_bytes}
 use Rattle.desc_table.specs.Format.{format_at}
 use Rattle.sws_run.specs.FormatList.{format_line}
 use Rattle.sws_run.proofs.FormatLines.{all_lines, next_line}

@@ -1,4 +1,4 @@
-use Rattle.std.proofs.Common.{◌≡◌, [], ◌++◌, List, ℕ, length, refl, sym, ap, arith}
+use Rattle.std.proofs.Common.{◌≡◌, arith}
 use Rattle.sws_run.specs.Cut.{last_end, TooMany}
 use Rattle.sws_run.proofs.Told.{told_takes, told_old}
 use Rattle.sws_run.proofs.Last.{some_last}

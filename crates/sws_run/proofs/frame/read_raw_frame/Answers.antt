@@ -1,4 +1,4 @@
-use Rattle.std.proofs.Common.{◌≡◌, ◌<◌, ◌++◌, List, ℕ, length, take, sym, ap, arith, ◌∙◌, subst, length-take-le}
+use Rattle.std.proofs.Common.{◌≡◌, ◌<◌, ◌++◌, length, take, ap, arith, length-take-le}
 use Rattle.sws_words.specs.declared.task.Form.TheVariants.{Raw}
 use Rattle.y4m_io.specs.declared.fault.StreamFault.TheVariants.{Truncated}
 use Rattle.sws_run.specs.Cut.{piece_cut, Faulty}

@@ -1,4 +1,4 @@
-use Rattle.std.proofs.Common.{◌≡◌, ◌<◌, ◌++◌, List, ℕ, length, take, [], refl, ap, arith, length-take-le}
+use Rattle.std.proofs.Common.{◌≡◌, ◌<◌, ◌++◌, length, take, [], refl, ap, arith, length-take-le}
 use Rattle.sws_words.specs.declared.task.Form.TheVariants.{Y4m}
 use Rattle.y4m_io.specs.declared.fault.FrameLine.{FrameLine}
 use Rattle.y4m_io.specs.declared.fault.StreamFault.TheVariants.{Truncated}

@@ -1,6 +1,3 @@
-use Rattle.std.proofs.Common.{subst, sym, IfOk, OnErr}
-use Rattle.y4m_io.specs.Reading.{header_reads}
-use Rattle.sws_run.specs.Frames.{IfTold, TakesHeader, TakesHeaderPart}
 use Rattle.sws_run.proofs.Fronts.{header_told, header_open}
 use Rattle.sws_run.proofs.opening.input_header.Goals as goal
 

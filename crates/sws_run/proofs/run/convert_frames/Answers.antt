@@ -1,10 +1,9 @@
-use Rattle.std.proofs.Common.{◌≡◌, ◌+◌, ◌++◌, List, [], ℕ, length, rules, arith, subst, inr, IfSome, refl, sym, ap}
+use Rattle.std.proofs.Common.{◌≡◌, length, rules, arith, subst, inr, IfSome}
 use Rattle.pix_io.proofs.Calls.{Rose-after}
-use Rattle.sws_run.specs.Cut.{Clean, TooMany, Broken, Faulty, piece_cut, last_end, most_frames}
-use Rattle.sws_run.specs.Output.{front_in}
+use Rattle.sws_run.specs.Cut.{Clean, TooMany, Broken, Faulty, piece_cut, most_frames}
 use Rattle.sws_run.specs.Frames.{IfTold, TakesPiece, text_by}
 use Rattle.sws_run.proofs.Runs.{start_place, start_texts, end_nothing, end_faulty, end_last, ends_as, texts_whole, stops_in_part}
-use Rattle.sws_run.proofs.Runs.{stops_at_last, text_is, next_place, has_text, next_texts, stops_writing, IsBehindFrames, WritesTexts}
+use Rattle.sws_run.proofs.Runs.{stops_at_last, text_is, next_place, has_text, next_texts, stops_writing}
 use Rattle.sws_run.proofs.run.convert_frames.Goals as goal
 
 pub loop-done-init : goal.loop-done-init

@@ -1,10 +1,8 @@
-use Rattle.std.proofs.Common.{◌≡◌, List, ℕ, map, string_bytes, Result, Ok, Err, sym, ap, subst, ◌∙◌}
-use Rattle.sws_run.specs.declared.ended.Ended.{Ended}
+use Rattle.std.proofs.Common.{◌≡◌, map, string_bytes, Ok, sym, ap, subst, ◌∙◌}
 use Rattle.sws_run.specs.declared.ended.Ended.TheVariants.{Usage}
-use Rattle.sws_run.specs.declared.request.Request.{Request}
 use Rattle.sws_run.specs.declared.request.Request.TheVariants as request
 use Rattle.sws_run.specs.Request.{request_of, asked_by}
-use Rattle.sws_run.specs.Run.{GivesAnswer, GivesReadFault, GivesWriteFault, GivesOutOfMemory}
+use Rattle.sws_run.specs.Run.{GivesAnswer, GivesWriteFault}
 use Rattle.sws_run.proofs.Asked.{refused_answer}
 use Rattle.sws_run.proofs.top.run_words.Goals as goal
 
