@@ -33,7 +33,9 @@ spaced_fraction x = codes " " ++ fraction_text x
 
 -- four numbers
 unfoldable pub numbers_text : List ℕ → List ℕ
-numbers_text ns = spaced_number (slice_index ns 0) ++ spaced_number (slice_index ns 1) ++ spaced_number (slice_index ns 2) ++ spaced_number (slice_index ns 3)
+numbers_text ns =
+    spaced_number (slice_index ns 0) ++ spaced_number (slice_index ns 1) ++ spaced_number (slice_index ns 2)
+    ++ spaced_number (slice_index ns 3)
 
 -- the entry of value i, where it is given: i=x
 unfoldable pub entry_text : ℕ → Option ℚ → List ℕ
@@ -41,13 +43,15 @@ entry_text i None = []
 entry_text i (Some x) = spaced_number i ++ codes "=" ++ fraction_text x
 
 unfoldable pub entries_text : List (Option ℚ) → List ℕ
-entries_text entries = entry_text 0 (entry entries 0) ++ entry_text 1 (entry entries 1) ++ entry_text 2 (entry entries 2) ++ entry_text 3 (entry entries 3)
+entries_text entries =
+    entry_text 0 (entry entries 0) ++ entry_text 1 (entry entries 1) ++ entry_text 2 (entry entries 2)
+    ++ entry_text 3 (entry entries 3)
 
 -- the four coefficients of a row, and its constant
 unfoldable pub coefficients_text : List ℚ → List ℕ
 coefficients_text row =
-    spaced_fraction (fraction_in row 0) ++ spaced_fraction (fraction_in row 1) ++ spaced_fraction (fraction_in row 2) ++ spaced_fraction (fraction_in row 3)
-    ++ spaced_fraction (fraction_in row 4)
+    spaced_fraction (fraction_in row 0) ++ spaced_fraction (fraction_in row 1) ++ spaced_fraction (fraction_in row 2)
+    ++ spaced_fraction (fraction_in row 3) ++ spaced_fraction (fraction_in row 4)
 
 -- the rows before row i all give their values back, so that none of them is shown
 abbrev pub is_first_shown : List (List ℚ) → ℕ → Bool
@@ -59,7 +63,8 @@ separator rows i = if is_first_shown rows i then codes " " else codes "; "
 
 -- row i, where it does not give its value back: i: a b c d e
 abbrev pub row_text : List (List ℚ) → ℕ → List ℕ
-row_text rows i = if is_identity_row i (row_of rows i) then [] else separator rows i ++ decimal i ++ codes ":" ++ coefficients_text (row_of rows i)
+row_text rows i =
+    if is_identity_row i (row_of rows i) then [] else separator rows i ++ decimal i ++ codes ":" ++ coefficients_text (row_of rows i)
 
 unfoldable pub rows_text : List (List ℚ) → List ℕ
 rows_text rows = row_text rows 0 ++ row_text rows 1 ++ row_text rows 2 ++ row_text rows 3

@@ -15,7 +15,8 @@ fn push_read(
     planes: &[u8; 4],
     palette: bool,
 ) -> Result<(), OutOfMemory>
-    ensures { OnOk result (string_bytes text.new ≡ string_bytes text.old ++ read_text elem planes.now palette) }
+    ensures { OnOk result (string_bytes text.new
+        ≡ string_bytes text.old ++ read_text elem planes.now palette) }
 {
     if palette {
         text.push_str("read pal8")?;

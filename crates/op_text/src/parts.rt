@@ -35,7 +35,8 @@ fn push_denominator(text: &mut String, den: u128) -> Result<(), OutOfMemory>
 /// A fraction in lowest terms: `n`, or `n/d`.
 #[tactic(auto, unfolding(crate::specs::Parts::fraction_text))]
 pub fn push_fraction(text: &mut String, value: &Frac) -> Result<(), OutOfMemory>
-    ensures { OnOk result (string_bytes text.new ≡ string_bytes text.old ++ fraction_text value.now) }
+    ensures { OnOk result (string_bytes text.new
+        ≡ string_bytes text.old ++ fraction_text value.now) }
 {
     let mut buffer = Buffer::new();
     text.push_str(buffer.format(value.num()))?;
@@ -54,7 +55,8 @@ pub fn push_number(text: &mut String, n: u8) -> Result<(), OutOfMemory>
 
 /// A fraction behind a space.
 pub fn push_spaced_fraction(text: &mut String, value: &Frac) -> Result<(), OutOfMemory>
-    ensures { OnOk result (string_bytes text.new ≡ string_bytes text.old ++ spaced_fraction value.now) }
+    ensures { OnOk result (string_bytes text.new
+        ≡ string_bytes text.old ++ spaced_fraction value.now) }
 {
     text.push_str(" ")?;
     push_fraction(text, value)
@@ -63,7 +65,8 @@ pub fn push_spaced_fraction(text: &mut String, value: &Frac) -> Result<(), OutOf
 /// Four numbers, each behind a space.
 #[tactic(auto, unfolding(crate::specs::Parts::numbers_text))]
 pub fn push_numbers(text: &mut String, numbers: &[u8; 4]) -> Result<(), OutOfMemory>
-    ensures { OnOk result (string_bytes text.new ≡ string_bytes text.old ++ numbers_text numbers.now) }
+    ensures { OnOk result (string_bytes text.new
+        ≡ string_bytes text.old ++ numbers_text numbers.now) }
 {
     push_number(text, numbers[0])?;
     push_number(text, numbers[1])?;
@@ -73,7 +76,8 @@ pub fn push_numbers(text: &mut String, numbers: &[u8; 4]) -> Result<(), OutOfMem
 
 #[tactic(auto, unfolding(crate::specs::Parts::entry_text))]
 fn push_entry(text: &mut String, i: u8, entry: &Option<Frac>) -> Result<(), OutOfMemory>
-    ensures { OnOk result (string_bytes text.new ≡ string_bytes text.old ++ entry_text i entry.now) }
+    ensures { OnOk result (string_bytes text.new
+        ≡ string_bytes text.old ++ entry_text i entry.now) }
 {
     let Some(value) = entry else {
         return Ok(());
@@ -86,7 +90,8 @@ fn push_entry(text: &mut String, i: u8, entry: &Option<Frac>) -> Result<(), OutO
 /// The entries that are given, each as `i=x` behind a space.
 #[tactic(auto, unfolding(crate::specs::Parts::entries_text))]
 pub fn push_entries(text: &mut String, entries: &[Option<Frac>; 4]) -> Result<(), OutOfMemory>
-    ensures { OnOk result (string_bytes text.new ≡ string_bytes text.old ++ entries_text entries.now) }
+    ensures { OnOk result (string_bytes text.new
+        ≡ string_bytes text.old ++ entries_text entries.now) }
 {
     push_entry(text, 0, &entries[0])?;
     push_entry(text, 1, &entries[1])?;
@@ -96,7 +101,8 @@ pub fn push_entries(text: &mut String, entries: &[Option<Frac>; 4]) -> Result<()
 
 #[tactic(auto, unfolding(crate::specs::Parts::coefficients_text))]
 fn push_coefficients(text: &mut String, row: &[Frac; 5]) -> Result<(), OutOfMemory>
-    ensures { OnOk result (string_bytes text.new ≡ string_bytes text.old ++ coefficients_text row.now) }
+    ensures { OnOk result (string_bytes text.new
+        ≡ string_bytes text.old ++ coefficients_text row.now) }
 {
     push_spaced_fraction(text, &row[0])?;
     push_spaced_fraction(text, &row[1])?;
@@ -134,7 +140,8 @@ fn push_row(text: &mut String, rows: &[[Frac; 5]; 4], i: usize) -> Result<(), Ou
     push_coefficients(text, &rows[i])
 }
 
-/// The rows that do not give their value back, each as `i: a b c d e`, with semicolons between them.
+/// The rows that do not give their value back, each as `i: a b c d e`, with semicolons between
+/// them.
 #[tactic(auto, unfolding(crate::specs::Parts::rows_text))]
 pub fn push_rows(text: &mut String, rows: &[[Frac; 5]; 4]) -> Result<(), OutOfMemory>
     ensures { OnOk result (string_bytes text.new ≡ string_bytes text.old ++ rows_text rows.now) }

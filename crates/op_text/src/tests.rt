@@ -73,8 +73,8 @@ fn shows_sixteen_bits_to_eight(rt: HostRuntime) {
             planes: [1, 0, 0, 0],
         },
     ];
-    let wanted =
-        "read u16 1 0 0 0\nconvert rat\nlinear 0: 1/257 0 0 0 0\ndither 0\nmin 0=255\nconvert u8\nwrite u8 1 0 0 0\n";
+    let wanted = "read u16 1 0 0 0\nconvert rat\nlinear 0: 1/257 0 0 0 0\ndither 0\n\
+         min 0=255\nconvert u8\nwrite u8 1 0 0 0\n";
     assert!(rt; has_text(rt.alloc(), &ops, wanted));
 }
 
@@ -104,8 +104,9 @@ fn shows_whole_numbers(rt: HostRuntime) {
             planes: [4, 0, 0, 0],
         },
     ];
-    let wanted =
-        "read u16 1 2 0 0\nswap\nlshift 6\nrshift 0\nunpack 5 6 5 0\nswizzle 2 1 0 3\nclear 0=0 3=65535\nclear\npack 2 10 4 0\nconvert u32\nwrite u32 4 0 0 0\n";
+    let wanted = "read u16 1 2 0 0\nswap\nlshift 6\nrshift 0\nunpack 5 6 5 0\n\
+         swizzle 2 1 0 3\nclear 0=0 3=65535\nclear\npack 2 10 4 0\nconvert u32\n\
+         write u32 4 0 0 0\n";
     assert!(rt; has_text(rt.alloc(), &ops, wanted));
 }
 
@@ -137,7 +138,8 @@ fn shows_fractions_and_rows(rt: HostRuntime) {
             limits: entries(Some(fraction(-7, 2)), Some(Frac::whole(-1))),
         },
     ];
-    let wanted =
-        "read pal8\nconvert u16 expand\nconvert rat\nlinear 0: 1/257 0 0 0 0; 2: 1 0 1 0 -5\nlinear\nscale -1/257\nmax 0=-7/2 3=-1\n";
+    let wanted = "read pal8\nconvert u16 expand\nconvert rat\n\
+         linear 0: 1/257 0 0 0 0; 2: 1 0 1 0 -5\nlinear\nscale -1/257\n\
+         max 0=-7/2 3=-1\n";
     assert!(rt; has_text(rt.alloc(), &ops, wanted));
 }

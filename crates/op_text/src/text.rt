@@ -7,7 +7,8 @@ use frac_math::OutOfMemory;
 use op_list::OpList;
 use std::alloc::Global;
 
-/// The text of a list: a line for each operation, ended by a newline. `specs/Line.antt` says what it shows.
+/// The text of a list: a line for each operation, ended by a newline. `specs/Line.antt` says what
+/// it shows. The memory of the text is all that it takes.
 pub fn print(alloc: Global, list: &OpList) -> Result<String, OutOfMemory>
     ensures { IfOk result (λ text. string_bytes text ≡ text_of list.now) }
 {
