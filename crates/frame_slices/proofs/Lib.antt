@@ -1,0 +1,7 @@
+pub mod Chained
+pub mod CutPlaces
+pub mod MadeBytes
+pub mod PlaneParts
+pub mod ReadsOn
+pub mod SliceFrame
+pub mod SlicePlanes

@@ -1,0 +1,2 @@
+pub mod FrameSlices
+pub mod Generated

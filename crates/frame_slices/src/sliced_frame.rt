@@ -1,0 +1,147 @@
+// A frame held as slices of its rows.
+ghost use Rattle.std.specs.Prelude.{◌≡◌, ◌+◌, ◌<◌, ◌≤◌, ◌^◌, false, sum, map, vec_len, IfOk, OnOk, OnErr};
+ghost use Rattle.std.specs.Coded.{Coded-set};
+ghost use Rattle.std.proofs.Props.{props};
+ghost use Rattle.pix_desc.specs.Layouts.{IsValid};
+ghost use Rattle.frame_slices.specs.FrameSlices.{place_of, rows_of, places_from, HaveOnePalette};
+
+use crate::cutting::cut;
+use crate::fixed_parts::convert_with;
+use crate::frame_slice::{FrameSlice, Place};
+use crate::slices::{read_frame, write_planes};
+use crate::sums::sum_planes;
+use frac_math::OutOfMemory;
+use pix_desc::Desc;
+use pix_io::{Failed, Got, Sink, Source};
+use row_plan::Plan;
+use std::alloc::Global;
+use std::thread::Threads;
+
+/// A frame held as slices of its rows: of each the bytes of the source and those of the target.
+/// They serve one frame after the
+/// other, and no whole frame stands beside them.
+#[derive(Drop)]
+pub struct SlicedFrame {
+    /// All rows of the frame.
+    pub(crate) whole: Place,
+    pub(crate) slices: Vec<FrameSlice>,
+    pub ghost source: { IsValid whole.source } by { Prim.hlevel props },
+    pub ghost target: { IsValid whole.target } by { Prim.hlevel props },
+    pub ghost plain: { whole.target.palette ≡ false },
+    pub ghost width: { whole.width ≤ 16384 },
+    pub ghost height: { whole.rows ≤ 16384 },
+    pub ghost tall: { 0 < whole.rows },
+    pub ghost some: { 0 < vec_len slices },
+    pub ghost few: { vec_len slices ≤ 16384 },
+    pub ghost places: { map place_of slices.items ≡ places_from whole.source whole.target whole.width 0 (map rows_of slices.items) },
+    pub ghost covers: { sum (map rows_of slices.items) ≡ whole.rows },
+    pub ghost behind: { HaveOnePalette slices.items },
+}
+
+impl SlicedFrame {
+    ghost use Rattle.std.specs.Prelude.{length};
+    ghost use Rattle.pix_desc.specs.Frame.{frame_length};
+    ghost use Rattle.pix_meaning.specs.Target.{target_frame};
+    ghost use Rattle.pix_io.specs.Faults.{HasCause};
+    ghost use Rattle.pix_io.specs.Streams.{TakesWhole, TakesPart, IsInRange, Writes, WritesPart};
+    ghost use Rattle.row_plan.specs.Slices.{slices_of};
+    ghost use Rattle.frame_slices.specs.FrameSlices.{input_of, source_in, target_in, AreCut};
+
+    /// The slices of a frame of that size, each of `slice_height` rows, the last one shorter where
+    /// it must be.
+    pub fn new(
+        alloc: Global,
+        source: &Desc,
+        target: &Desc,
+        width: u32,
+        height: u32,
+        slice_height: u32,
+    ) -> Result<Self, OutOfMemory>
+        requires source { IsValid source.now }
+        requires target { IsValid target.now }
+        requires plain { target.now.palette ≡ false }
+        requires width { width ≤ 16384 }
+        requires some { 0 < height }
+        requires height { height ≤ 16384 }
+        requires slice_height { 0 < slice_height }
+        ensures source { IfOk result (λ frame. frame.whole.source ≡ source.now) }
+        ensures target { IfOk result (λ frame. frame.whole.target ≡ target.now) }
+        ensures width { IfOk result (λ frame. frame.whole.width ≡ width) }
+        ensures height { IfOk result (λ frame. frame.whole.rows ≡ height) }
+        ensures slices { IfOk result (λ frame. AreCut frame.whole slice_height frame.slices.items) }
+    {
+        let whole = Place {
+            source: *source,
+            target: *target,
+            width,
+            first: 0,
+            rows: height,
+        };
+        let slices = cut(alloc, &whole, slice_height)?;
+        Ok(SlicedFrame { whole, slices })
+    }
+
+    /// Reads a frame straight into the slices, plane after plane, and its palette where it has one.
+    ///
+    /// `Failed` comes only where the input's count of faults rises; fewer bytes than the frame has
+    /// were then taken.
+    pub fn read<In: Source>(&mut self, input: &mut In) -> Result<Got, Failed>
+        ensures taken { IfOk result
+            (λ got. TakesWhole (In.shown input.old) (In.shown input.new) got
+            (source_in self.new.whole self.new.slices.items)) }
+        ensures range { IfOk result
+            (λ got. IsInRange got (length (source_in self.new.whole self.new.slices.items))) }
+        ensures part_taken { OnErr result
+            (TakesPart (In.shown input.old) (In.shown input.new)
+            (source_in self.new.whole self.new.slices.items)) }
+        ensures cause { HasCause (In.shown input.old) (In.shown input.new) result }
+        ensures slices { slices_of self.new.whole.source self.new.whole.width self.new.whole.rows (source_in self.new.whole self.new.slices.items) 0 (map rows_of self.new.slices.items)
+            ≡ map input_of self.new.slices.items }
+        ensures size { length (source_in self.new.whole self.new.slices.items)
+            ≡ frame_length self.new.whole.source self.new.whole.width self.new.whole.rows }
+        ensures whole { self.new.whole ≡ self.old.whole }
+    {
+        read_frame(&mut self.slices, &self.whole, input)
+    }
+
+    /// Converts the frame that was read, with so many workers, each for its part of the slices.
+    /// One worker, or one slice, costs
+    /// no thread, and the bytes are the same for every number of workers.
+    pub fn convert<R: Threads + Sync>(&mut self, rt: &R, plan: &Plan, workers: u32)
+        requires source { plan.now.pair.from.desc ≡ self.old.whole.source }
+        requires target { plan.now.pair.to.desc ≡ self.old.whole.target }
+        requires workers { 0 < workers }
+        ensures target { target_in self.new.whole self.new.slices.items
+            ≡ target_frame plan.now.pair self.old.whole.width self.old.whole.rows (source_in self.old.whole self.old.slices.items) }
+        ensures source { source_in self.new.whole self.new.slices.items
+            ≡ source_in self.old.whole self.old.slices.items }
+        ensures whole { self.new.whole ≡ self.old.whole }
+    {
+        convert_with(rt, plan, workers, &mut self.slices);
+    }
+
+    /// Writes the target frame straight from the slices.
+    ///
+    /// `Failed` comes only where the output's count of faults rises; a front of the frame, shorter
+    /// than it, was then written.
+    pub fn write<Out: Sink>(&self, output: &mut Out) -> Result<(), Failed>
+        ensures written { OnOk result
+            (Writes (Out.shown output.old) (Out.shown output.new)
+            (target_in self.now.whole self.now.slices.items)) }
+        ensures part_written { OnErr result
+            (WritesPart (Out.shown output.old) (Out.shown output.new)
+            (target_in self.now.whole self.now.slices.items)) }
+        ensures cause { HasCause (Out.shown output.old) (Out.shown output.new) result }
+    {
+        write_planes(&self.slices, output)
+    }
+    /// The sum of the bytes of the target frame.
+    pub fn sum(&self) -> u64
+        ensures { result ≡ sum (target_in self.now.whole self.now.slices.items) }
+    {
+        sum_planes(&self.slices)
+    }
+}
+
+#[cfg(test)]
+mod tests;
