@@ -17,4 +17,6 @@ pub mod ExpandingBytes
 pub mod ResettingUnused
 pub mod CancellingPacking
 pub mod Walk
+pub mod Places
 pub mod Normals
+pub mod PutTogether

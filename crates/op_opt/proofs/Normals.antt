@@ -1,6 +1,6 @@
 -- The normal list is reached, and writes the same.
 use Rattle.std.proofs.Common.{◌≡◌, ℕ, zero, suc, ◌+◌, ◌<◌, ◌≤◌, Bool, true, List, [], ◌∷◌, length, All, refl, sym, ◌∙◌, ap, subst, arith}
-use Rattle.std.specs.Prelude.{Option, Some, None}
+use Rattle.std.specs.Prelude.{Option, Some, None, Result, Ok, Err, IfOk}
 use Rattle.op_list.specs.declared.types.Stage.TheVariants.{Start}
 use Rattle.op_list.specs.declared.position.PixelPosition.{PixelPosition}
 use Rattle.op_list.specs.declared.op.Op.{Op}
@@ -17,9 +17,12 @@ use Rattle.op_opt.specs.Weight.{weight}
 use Rattle.op_opt.specs.declared.edit.Edit.{Edit}
 use Rattle.op_opt.specs.Edits.{edited}
 use Rattle.op_opt.specs.Normal.{step, next_or, normal_within, normal, IsNormal}
-use Rattle.op_opt.specs.Laws.{WritesTheSame, IsNormalOf, PassesKeepElements, NormalIsReached}
+use Rattle.op_opt.specs.Passes.{change_at}
+use Rattle.op_opt.specs.declared.pass.Pass.{Pass}
+use Rattle.op_opt.proofs.Places.{applies_nowhere}
+use Rattle.op_opt.specs.Laws.{IsImproved, EachPassImproves, IsNormalOf, NormalIsReached}
 use Rattle.op_opt.proofs.Replacing.{At, Improves}
-use Rattle.op_opt.proofs.Walk.{step_improves}
+use Rattle.op_opt.proofs.Walk.{first_place_improves, passes_sound, step_improves}
 
 -- ---- one step
 start_within : AreWithin start_ranges no_values
@@ -48,46 +51,57 @@ start_small = record { each = λ i below. zero_at i }
 start_at : (ops : List Op) (frame : List ℕ) → IsOpList ops → ends_with_write ops ≡ true → All (λ byte. byte < 256) frame → At Start start_ranges ops frame no_values
 start_at ops frame list last bytes = record { typed = list.typed; last = last; bytes = bytes; kind = refl; within = start_within; small = start_small }
 
-step_list : (ops after : List Op) → step ops ≡ Some after → IsOpList ops → IsOpList after
-step_list ops after h list = let i = step_improves ops after h in record { typed = i.typed list.typed; size = omega (arith, i.shorter, list.size) }
-
-step_same : (ops after : List Op) → step ops ≡ Some after → IsOpList ops → ends_with_write ops ≡ true → WritesTheSame ops after
+improved : (ops after : List Op) → IsOpList ops → ends_with_write ops ≡ true → Improves Start start_ranges ops after → IsImproved ops after
 unfolding run
-step_same ops after h list last = λ frame width rows x row y bytes.
-    let position : PixelPosition = record { width = width; rows = rows; x = x; row = row; y = y } in
-    ap (λ values. four (λ i. number values i)) ((step_improves ops after h).same frame position no_values (start_at ops frame list last bytes))
+improved ops after list last i = record {
+  list = record { typed = i.typed list.typed; size = omega (arith, i.shorter, list.size) };
+  last = i.last last;
+  lighter = i.lighter;
+  shorter = i.shorter;
+  same = λ frame width rows x row y bytes.
+      (let position : PixelPosition = record { width = width; rows = rows; x = x; row = row; y = y } in
+      ap (λ values. four (λ k. number values k)) (i.same frame position no_values (start_at ops frame list last bytes)));
+}
+
+pub pass_improves : EachPassImproves
+pass_improves = λ pass ops after list last is.
+    improved ops after list last (first_place_improves (change_at pass) (passes_sound pass) Start start_ranges ops after is)
+
+step_improved : (ops after : List Op) → step ops ≡ Some after → IsOpList ops → ends_with_write ops ≡ true → IsImproved ops after
+step_improved ops after is list last = improved ops after list last (step_improves ops after is)
 
 -- ---- all steps
+settled : (ops : List Op) → step ops ≡ None → IsOpList ops → ends_with_write ops ≡ true → IsNormalOf ops ops
+settled ops is list last = record {
+  normal = record { list = list; last = last; settled = applies_nowhere ops is };
+  lighter = omega arith;
+  shorter = omega arith;
+  same = λ frame width rows x row y bytes. refl;
+}
+
+-- behind a step
+behind : (ops next after : List Op) → IsImproved ops next → IsNormalOf next after → IsNormalOf ops after
+behind ops next after i n = record {
+  normal = n.normal;
+  lighter = omega (arith, i.lighter, n.lighter);
+  shorter = omega (arith, i.shorter, n.shorter);
+  same = λ frame width rows x row y bytes. n.same frame width rows x row y bytes ∙ i.same frame width rows x row y bytes;
+}
+
 steps_normal : (steps : ℕ) (ops : List Op) → weight ops ≤ steps → IsOpList ops → ends_with_write ops ≡ true → IsNormalOf ops (normal_within steps ops)
 unfolding normal_within
 steps_normal zero ops light list last =
     (elim (step ops) as (λ s. step ops ≡ s → IsNormalOf ops ops) [
-      | None ↦ λ is. record { list = list; last = last; normal = is; lighter = omega arith }
+      | None ↦ λ is. settled ops is list last
       | Some next ↦ λ is. absurd (let i = step_improves ops next is in omega (arith, i.lighter))
     ]) refl
 steps_normal (suc steps) ops light list last =
     (elim (step ops) as (λ s. step ops ≡ s → IsNormalOf ops (next_or ops (λ next. normal_within steps next) s)) [
-      | None ↦ λ is. record { list = list; last = last; normal = is; lighter = omega arith }
+      | None ↦ λ is. settled ops is list last
       | Some next ↦ λ is.
-          (let i = step_improves ops next is in
-          let n = steps_normal steps next (omega (arith, i.lighter)) (step_list ops next is list) (i.last last) in
-          record { list = n.list; last = n.last; normal = n.normal; lighter = omega (arith, i.lighter, n.lighter) })
+          (let i = step_improved ops next is list last in
+          behind ops next (normal_within steps next) i (steps_normal steps next (omega (arith, i.lighter)) i.list i.last))
     ]) refl
-
-steps_same : (steps : ℕ) (ops : List Op) → IsOpList ops → ends_with_write ops ≡ true → WritesTheSame ops (normal_within steps ops)
-unfolding normal_within
-steps_same zero ops list last = λ frame width rows x row y bytes. refl
-steps_same (suc steps) ops list last =
-    (elim (step ops) as (λ s. step ops ≡ s → WritesTheSame ops (next_or ops (λ next. normal_within steps next) s)) [
-      | None ↦ λ is frame width rows x row y bytes. refl
-      | Some next ↦ λ is frame width rows x row y bytes.
-          steps_same steps next (step_list ops next is list) ((step_improves ops next is).last last) frame width rows x row y bytes
-          ∙ step_same ops next is list last frame width rows x row y bytes
-    ]) refl
-
-pub normal_same : PassesKeepElements
-unfolding normal
-normal_same = λ ops list last. steps_same (weight ops) ops list last
 
 pub normal_reached : NormalIsReached
 unfolding normal
@@ -144,3 +158,15 @@ next_of_code list ops again next edit same too is made =
 
 pub next_whole : (ops next : List Op) → step ops ≡ Some next → ends_with_write ops ≡ true → ends_with_write next ≡ true
 next_whole ops next is last = (step_improves ops next is).last last
+
+-- ---- what the code's step owes
+pub next_sound : (ops next : List Op) → step ops ≡ Some next → IsOpList ops → ends_with_write ops ≡ true → IsOpList next
+next_sound ops next is list last = (step_improved ops next is list last).list
+
+pub normal_here : (ops : List Op) → step ops ≡ None → IsOpList ops → ends_with_write ops ≡ true → IsNormalOf ops ops
+normal_here ops is list last = settled ops is list last
+
+pub normals_behind : {E : Type 0} (ops next : List Op) (result : Result (List Op) E) → step ops ≡ Some next → IsOpList ops → ends_with_write ops ≡ true
+    → IfOk result (λ after. IsNormalOf next after) → IfOk result (λ after. IsNormalOf ops after)
+normals_behind ops next (Ok after) is list last n = behind ops next after (step_improved ops next is list last) n
+normals_behind ops next (Err fault) is list last n = tt

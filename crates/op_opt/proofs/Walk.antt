@@ -48,7 +48,7 @@ first_place_improves rule sound stage ranges (op ∷ ops) after h =
     (improves_behind stage ranges op ops rest (first_place_improves rule sound (stage_after stage op) (ranges_after stage op ranges) ops rest is))))
 
 -- ---- each pass
-passes_sound : (pass : Pass) → IsSound (change_at pass)
+pub passes_sound : (pass : Pass) → IsSound (change_at pass)
 passes_sound DropIdle = drop_idle_sound
 passes_sound JoinSwizzles = join_swizzles_sound
 passes_sound JoinShifts = join_shifts_sound
