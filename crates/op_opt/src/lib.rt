@@ -17,6 +17,8 @@ mod normal_list;
 mod pass;
 mod reset_unused;
 mod skip_fraction;
+#[cfg(test)]
+mod tests;
 mod trim_clamp;
 mod trim_clear;
 
