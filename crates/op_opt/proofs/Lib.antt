@@ -20,3 +20,4 @@ pub mod Walk
 pub mod Places
 pub mod Normals
 pub mod PutTogether
+pub mod AlongPlaces

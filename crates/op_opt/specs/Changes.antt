@@ -7,6 +7,7 @@ use Rattle.op_list.specs.Typing.{stage_after}
 use Rattle.op_range.specs.declared.range.ValueRange.{ValueRange}
 use Rattle.op_range.specs.Ranges.{ranges_after}
 use Rattle.op_opt.specs.declared.change.Change.{Change}
+use Rattle.op_opt.specs.declared.place.Place.{Place}
 use Rattle.op_opt.specs.OfFour.{or_else}
 
 -- a pass at a place: what it changes, from the stage and the ranges there and the operations from there on
@@ -30,3 +31,9 @@ first_place rule stage ranges [] = None
 first_place rule stage ranges (op ∷ ops) =
     or_else (option_map (λ change. changed (op ∷ ops) change) (rule stage ranges (op ∷ ops)))
     (option_map (λ rest. op ∷ rest) (first_place rule (stage_after stage op) (ranges_after stage op ranges) ops))
+
+-- the places behind each of some operations
+unfoldable pub places_after : Stage → List Op → List ValueRange → List Place
+places_after stage [] here = []
+places_after stage (op ∷ ops) here =
+    let next = ranges_after stage op here in record { ranges = next } ∷ places_after (stage_after stage op) ops next

@@ -15,6 +15,7 @@ mod join_swizzles;
 pub mod laws;
 mod normal_list;
 mod pass;
+mod place;
 mod reset_unused;
 mod skip_fraction;
 #[cfg(test)]
@@ -22,7 +23,4 @@ mod tests;
 mod trim_clamp;
 mod trim_clear;
 
-pub use change::Change;
-pub use edit::{Edit, next_edit};
 pub use normal_list::{NormalList, optimise};
-pub use pass::{PASSES, Pass};
