@@ -1,6 +1,6 @@
 -- Cancel unpack and pack.
-use Rattle.std.proofs.Common.{◌≡◌, ℕ, zero, suc, ◌+◌, ◌*◌, ◌/◌, ◌%◌, ◌^◌, ◌<◌, Bool, true, false, not, ◌&&◌, List, [], ◌∷◌, length, get_or, eqb-true, pow_pos, mod-lt, mod-eq_of_lt, subst, refl, sym, ◌∙◌, ap, arith}
-use Rattle.std.specs.Prelude.{Option, Some, None, slice_index, sum, nat_eq}
+use Rattle.std.proofs.Common.{◌≡◌, ℕ, zero, suc, ◌+◌, ◌*◌, ◌/◌, ◌%◌, ◌^◌, ◌<◌, Bool, true, false, not, ◌&&◌, List, [], ◌∷◌, length, eqb-true, pow_pos, mod-lt, mod-eq_of_lt, subst, refl, sym, ◌∙◌, ap, arith}
+use Rattle.std.specs.Prelude.{None, sum, nat_eq}
 use Rattle.std.specs.Str.{bytes_eq}
 use Rattle.std.proofs.lemmas.Slice.Eq.{bytes_eq-Decides}
 use Rattle.std.proofs.lemmas.Option.{same_Some, none-some}
@@ -12,10 +12,10 @@ use Rattle.op_list.specs.declared.op.Op.{Op}
 use Rattle.op_list.specs.declared.op.Op.TheVariants.{Unpack, Pack}
 use Rattle.op_list.specs.declared.values.Values.{Values}
 use Rattle.op_list.specs.declared.values.Values.TheVariants.{Numbers}
-use Rattle.op_list.specs.Types.{bits_at, is_whole, is_rational}
+use Rattle.op_list.specs.Types.{bits_at, is_rational}
 use Rattle.op_list.specs.Typing.{may_follow, stage_after, stage_from, are_typed}
 use Rattle.op_list.specs.Values.{four, number, are_fractions}
-use Rattle.op_list.specs.Whole.{field, placed, bits_below}
+use Rattle.op_list.specs.Whole.{field}
 use Rattle.op_list.specs.Apply.{apply, packed}
 use Rattle.op_list.specs.Run.{run_from}
 use Rattle.op_list.proofs.Applied.{whole_not_rational}
@@ -27,9 +27,9 @@ use Rattle.op_range.specs.Used.{is_used, used_from, Agree}
 use Rattle.op_opt.specs.declared.change.Change.{Change}
 use Rattle.op_opt.specs.CancelPacking.{uses_first_alone, fill, cancel_packing}
 use Rattle.op_opt.specs.Weight.{weight, weight_of}
-use Rattle.op_opt.proofs.Tests.{chosen, from_not}
+use Rattle.op_opt.proofs.PassedTests.{chosen, from_not}
 use Rattle.op_opt.proofs.Unchanged.{no_fraction}
-use Rattle.op_opt.proofs.Replacing.{IsSound, Replaces, Replacement, At, same_by_agreement}
+use Rattle.op_opt.proofs.Replacing.{IsSound, Replaces, Replacement, same_by_agreement}
 
 -- ---- the fields of a number, put together again
 -- a field in its place

@@ -1,8 +1,7 @@
 -- Two byte swaps are nothing.
-use Rattle.std.proofs.Common.{◌≡◌, ℕ, ◌+◌, ◌*◌, ◌/◌, ◌%◌, ◌^◌, ◌<◌, Bool, true, false, not, ◌&&◌, List, [], ◌∷◌, ◌++◌, subst, refl, sym, ◌∙◌, ap, arith}
-use Rattle.std.specs.Prelude.{Option, Some, None, slice_index}
+use Rattle.std.proofs.Common.{◌≡◌, ℕ, ◌+◌, ◌*◌, ◌/◌, ◌%◌, ◌^◌, ◌<◌, Bool, true, false, List, [], ◌∷◌, subst, refl, sym, ◌∙◌, ap, arith}
+use Rattle.std.specs.Prelude.{None, slice_index}
 use Rattle.std.proofs.lemmas.Option.{same_Some, none-some}
-use Rattle.frac_math.specs.Fraction.{nat}
 use Rattle.op_list.specs.declared.types.PixType.TheVariants.{U8, U16, U32, Rat}
 use Rattle.op_list.specs.declared.types.Stage.{Stage}
 use Rattle.op_list.specs.declared.types.Stage.TheVariants.{Start, Typed, Ended}
@@ -10,16 +9,16 @@ use Rattle.op_list.specs.declared.position.PixelPosition.{PixelPosition}
 use Rattle.op_list.specs.declared.op.Op.{Op}
 use Rattle.op_list.specs.declared.op.Op.TheVariants.{SwapBytes}
 use Rattle.op_list.specs.declared.values.Values.{Values}
-use Rattle.op_list.specs.declared.values.Values.TheVariants.{Numbers, Fractions}
+use Rattle.op_list.specs.declared.values.Values.TheVariants.{Numbers}
 use Rattle.op_list.specs.Types.{bits_at, is_wide, is_rational}
-use Rattle.op_list.specs.Typing.{may_follow, are_good, stage_after, stage_from, are_typed}
-use Rattle.op_list.specs.Values.{four, number, fraction, are_fractions}
+use Rattle.op_list.specs.Typing.{may_follow, stage_after, stage_from, are_typed}
+use Rattle.op_list.specs.Values.{four, number, are_fractions}
 use Rattle.op_list.specs.Whole.{reversed_bytes}
 use Rattle.op_list.specs.Apply.{apply}
 use Rattle.op_list.specs.Run.{run_from}
 use Rattle.op_range.specs.declared.range.ValueRange.{ValueRange}
 use Rattle.op_range.specs.Within.{AreSmall}
-use Rattle.op_range.specs.Used.{is_used, used_from, Agree}
+use Rattle.op_range.specs.Used.{used_from, Agree}
 use Rattle.op_list.proofs.Four.{get_or-four}
 use Rattle.op_opt.specs.declared.change.Change.{Change}
 use Rattle.op_opt.specs.CancelSwaps.{cancel_swaps}
@@ -27,7 +26,7 @@ use Rattle.op_opt.specs.Weight.{weight, weight_of}
 use Rattle.op_list.proofs.Typed.{typed_parts, typed_none}
 use Rattle.op_list.proofs.Wholes.{last_behind}
 use Rattle.op_opt.proofs.Unchanged.{no_fraction}
-use Rattle.op_opt.proofs.Replacing.{IsSound, Replaces, Replacement, At, same_by_agreement}
+use Rattle.op_opt.proofs.Replacing.{IsSound, Replaces, Replacement, same_by_agreement}
 
 two_bytes : (n : ℕ) → n < 65536 → reversed_bytes 2 (reversed_bytes 2 n) ≡ n
 two_bytes n h = omega arith

@@ -1,14 +1,13 @@
 -- Entries of which one is dropped: which one, what stays, and that there are fewer.
-use Rattle.std.proofs.Common.{◌≡◌, ℕ, zero, suc, ◌+◌, ◌<◌, Bool, true, false, not, ◌&&◌, ◌||◌, if◌then◌else◌, List, [], ◌∷◌, nat_eq, eqb-true, refl, sym, ◌∙◌, ap, arith}
-use Rattle.std.specs.Prelude.{Option, Some, None, slice_index_or}
+use Rattle.std.proofs.Common.{◌≡◌, ℕ, zero, suc, ◌<◌, Bool, true, false, if◌then◌else◌, List, [], ◌∷◌, nat_eq, eqb-true, refl, sym, ◌∙◌, ap, arith}
+use Rattle.std.specs.Prelude.{Option, Some, None}
 use Rattle.std.proofs.lemmas.Option.{same_Some, none-some}
 use Rattle.std.proofs.lemmas.Bool.{and_parts, and_from, both_ways}
 use Rattle.frac_math.specs.Fraction.{ℚ}
 use Rattle.op_list.specs.Typing.{entry_fits, all_fit}
-use Rattle.op_list.specs.Values.{four, entry}
-use Rattle.op_range.specs.Used.{is_missing}
+use Rattle.op_list.specs.Values.{entry}
 use Rattle.op_list.proofs.Four.{get_or-four}
-use Rattle.op_opt.specs.OfFour.{count_of_four, if_so, lowest, or_else}
+use Rattle.op_opt.specs.OfFour.{if_so, lowest, or_else}
 use Rattle.op_opt.specs.Entries.{without, is_given}
 use Rattle.op_opt.specs.Weight.{entries_of}
 

@@ -1,6 +1,6 @@
 -- No dither where the used values are whole.
-use Rattle.std.proofs.Common.{◌≡◌, ℕ, ◌+◌, ◌<◌, Bool, true, false, not, ◌&&◌, ◌||◌, if◌then◌else◌, List, [], ◌∷◌, ◌++◌, subst, refl, sym, ◌∙◌, ap, arith}
-use Rattle.std.specs.Prelude.{Option, Some, None}
+use Rattle.std.proofs.Common.{◌≡◌, ℕ, ◌<◌, Bool, true, not, ◌&&◌, ◌||◌, List, [], ◌∷◌, subst, refl, sym, ◌∙◌, ap, arith}
+use Rattle.std.specs.Prelude.{None}
 use Rattle.std.proofs.lemmas.Option.{same_Some, none-some}
 use Rattle.std.proofs.lemmas.Bool.{and_parts}
 use Rattle.frac_math.specs.Fraction.{ℚ, nat, whole, floor, ◌+ℚ◌}
@@ -14,7 +14,7 @@ use Rattle.op_list.specs.declared.op.Op.TheVariants.{Dither}
 use Rattle.op_list.specs.declared.values.Values.{Values}
 use Rattle.op_list.specs.declared.values.Values.TheVariants.{Fractions}
 use Rattle.op_list.specs.Types.{is_rational}
-use Rattle.op_list.specs.Typing.{may_follow, are_good, stage_after, stage_from, are_typed}
+use Rattle.op_list.specs.Typing.{may_follow, stage_after, stage_from, are_typed}
 use Rattle.op_list.specs.Values.{four, fraction, are_fractions}
 use Rattle.op_list.specs.Apply.{apply}
 use Rattle.op_list.specs.Run.{run_from}
@@ -30,9 +30,9 @@ use Rattle.op_opt.specs.OfFour.{all_of_four}
 use Rattle.op_opt.specs.Weight.{weight, weight_of}
 use Rattle.op_list.proofs.Typed.{typed_parts}
 use Rattle.op_list.proofs.Wholes.{last_behind}
-use Rattle.op_opt.proofs.Replacing.{IsSound, Replaces, Replacement, At}
+use Rattle.op_opt.proofs.Replacing.{IsSound, Replaces, Replacement}
 use Rattle.op_opt.proofs.Floors.{SameFloors, floors_free}
-use Rattle.op_opt.proofs.Tests.{chosen, if_used, all_at}
+use Rattle.op_opt.proofs.PassedTests.{chosen, if_used, all_at}
 
 -- a whole number and any dither
 dithered_floor : (k x y : ℕ) (z : ℚ) → is_whole_number z ≡ true → floor z ≡ floor (z +ℚ dither_at k x y)

@@ -1,23 +1,22 @@
 -- Drop an idle operation.
-use Rattle.std.proofs.Common.{◌≡◌, ℕ, ◌*◌, ◌/◌, ◌%◌, ◌^◌, ◌<◌, Bool, true, false, not, ◌&&◌, ◌||◌, List, [], ◌∷◌, nat_eq, eqb-true, mod-eq_of_lt, subst, refl, sym, ◌∙◌, ap, arith}
+use Rattle.std.proofs.Common.{◌≡◌, ℕ, ◌*◌, ◌/◌, ◌%◌, ◌^◌, ◌<◌, Bool, true, false, not, ◌||◌, List, [], ◌∷◌, nat_eq, eqb-true, mod-eq_of_lt, subst, refl, sym, ◌∙◌, ap, arith}
 use Rattle.std.specs.Prelude.{Option, Some, None, slice_index}
 use Rattle.std.proofs.lemmas.Option.{same_Some, none-some}
 use Rattle.std.proofs.lemmas.Bool.{and_parts}
-use Rattle.frac_math.specs.Fraction.{ℚ, nat, equal_ℚ, ◌*ℚ◌}
+use Rattle.frac_math.specs.Fraction.{ℚ, nat, ◌*ℚ◌}
 use Rattle.frac_math.proofs.FractionRing.{equal_is, mul-one}
 use Rattle.op_list.specs.declared.types.PixType.{PixType}
 use Rattle.op_list.specs.declared.types.PixType.TheVariants.{U8, U16, U32, Rat}
 use Rattle.op_list.specs.declared.types.Stage.{Stage}
-use Rattle.op_list.specs.declared.types.Stage.TheVariants.{Start, Typed, Ended}
-use Rattle.op_list.specs.declared.position.PixelPosition.{PixelPosition}
+use Rattle.op_list.specs.declared.types.Stage.TheVariants.{Typed}
 use Rattle.op_list.specs.declared.op.Op.{Op}
-use Rattle.op_list.specs.declared.op.Op.TheVariants.{Read, Write, SwapBytes, Unpack, Pack, Clear, LeftShift, RightShift, Swizzle, Convert}
-use Rattle.op_list.specs.declared.op.Op.TheVariants.{Dither, Linear, Scale, Min, Max}
+use Rattle.op_list.specs.declared.op.Op.TheVariants.{Clear, LeftShift, RightShift, Swizzle, Convert}
+use Rattle.op_list.specs.declared.op.Op.TheVariants.{Linear, Scale, Min, Max}
 use Rattle.op_list.specs.declared.values.Values.{Values}
 use Rattle.op_list.specs.declared.values.Values.TheVariants.{Numbers, Fractions}
 use Rattle.op_list.specs.Types.{bits_at, is_whole, is_rational, has_type}
 use Rattle.op_list.specs.Typing.{may_follow, stage_after, are_typed}
-use Rattle.op_list.specs.Values.{four, number, fraction, fraction_in, entry, are_fractions}
+use Rattle.op_list.specs.Values.{number, fraction, fraction_in, entry, are_fractions}
 use Rattle.op_list.specs.Apply.{apply, cleared, cleared_number, cleared_fraction, swizzled, as_numbers, converted, at_most, at_least, row_of, row_value}
 use Rattle.op_list.specs.Identity.{is_identity_row}
 use Rattle.op_list.proofs.Applied.{whole_not_rational}
@@ -29,10 +28,10 @@ use Rattle.op_range.proofs.Agreeing.{agree_self}
 use Rattle.op_opt.specs.declared.change.Change.{Change}
 use Rattle.op_opt.specs.OfFour.{all_of_four}
 use Rattle.op_opt.specs.DropIdle.{are_missing, is_idle, drop_idle}
-use Rattle.op_opt.proofs.Tests.{chosen, from_not, if_used, all_at}
+use Rattle.op_opt.proofs.PassedTests.{chosen, if_used, all_at}
 use Rattle.op_opt.proofs.LinearRows.{identity_value}
 use Rattle.op_opt.proofs.Unchanged.{agree_with_numbers, agree_with_fractions, dropped}
-use Rattle.op_opt.proofs.Replacing.{IsSound, Replaces, Replacement, At}
+use Rattle.op_opt.proofs.Replacing.{IsSound, Replaces, Replacement}
 
 -- ---- numbers
 kept : (count n : ℕ) → n < 2 ^ count → n ≡ n * 1 % 2 ^ count

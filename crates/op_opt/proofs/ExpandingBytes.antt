@@ -1,13 +1,13 @@
 -- Expand bytes by a conversion.
-use Rattle.std.proofs.Common.{◌≡◌, ℕ, ◌+◌, ◌*◌, ◌%◌, ◌^◌, ◌<◌, Bool, true, false, not, ◌&&◌, ◌||◌, List, [], ◌∷◌, pos, subst, refl, sym, ◌∙◌, ap, arith}
-use Rattle.std.specs.Prelude.{Option, Some, None, slice_index}
+use Rattle.std.proofs.Common.{◌≡◌, ℕ, ◌*◌, ◌%◌, ◌^◌, ◌<◌, Bool, true, false, not, ◌&&◌, ◌||◌, List, [], ◌∷◌, pos, subst, refl, sym, ◌∙◌, ap, arith}
+use Rattle.std.specs.Prelude.{Some, slice_index}
 use Rattle.std.proofs.lemmas.Option.{same_Some, none-some}
 use Rattle.std.proofs.lemmas.Bool.{and_parts, and_from}
 use Rattle.frac_math.specs.Fraction.{ℚ, nat, floor, equal_ℚ, ◌*ℚ◌}
 use Rattle.frac_math.proofs.Floor.{floor_whole}
 use Rattle.frac_math.proofs.FractionRing.{equal_is, whole-mul}
 use Rattle.op_list.specs.declared.types.PixType.{PixType}
-use Rattle.op_list.specs.declared.types.PixType.TheVariants.{U8, U16, U32, Rat}
+use Rattle.op_list.specs.declared.types.PixType.TheVariants.{U8, U16, Rat}
 use Rattle.op_list.specs.declared.types.Stage.{Stage}
 use Rattle.op_list.specs.declared.types.Stage.TheVariants.{Typed}
 use Rattle.op_list.specs.declared.position.PixelPosition.{PixelPosition}
@@ -17,9 +17,9 @@ use Rattle.op_list.specs.declared.values.Values.{Values}
 use Rattle.op_list.specs.declared.values.Values.TheVariants.{Numbers, Fractions}
 use Rattle.op_list.specs.Types.{is_same, has_type}
 use Rattle.op_list.specs.Typing.{may_follow, are_good, stage_after, stage_from, are_typed, is_write}
-use Rattle.op_list.specs.Values.{four, fraction, fraction_in, are_fractions}
+use Rattle.op_list.specs.Values.{four, fraction_in, are_fractions}
 use Rattle.op_list.specs.Whole.{modulo}
-use Rattle.op_list.specs.Apply.{apply, as_numbers, converted, row_of, row_value}
+use Rattle.op_list.specs.Apply.{apply, converted, row_of, row_value}
 use Rattle.op_list.specs.Run.{run_from}
 use Rattle.op_list.proofs.Four.{get_or-four}
 use Rattle.op_list.proofs.Wholes.{last_behind}
@@ -29,9 +29,9 @@ use Rattle.op_range.proofs.Agreeing.{agree_numbers}
 use Rattle.op_opt.specs.declared.change.Change.{Change}
 use Rattle.op_opt.specs.ExpandBytes.{is_expanding_row, expands_used, goes_through_fractions, expand_bytes}
 use Rattle.op_opt.specs.Weight.{weight, weight_of}
-use Rattle.op_opt.proofs.Tests.{chosen, if_used, all_at}
+use Rattle.op_opt.proofs.PassedTests.{chosen, if_used, all_at}
 use Rattle.op_opt.proofs.LinearRows.{expanding_value}
-use Rattle.op_opt.proofs.Replacing.{IsSound, Replaces, Replacement, At, same_by_agreement}
+use Rattle.op_opt.proofs.Replacing.{IsSound, Replaces, Replacement, same_by_agreement}
 
 -- ---- an operation that makes the used fractions 257 times as great
 record Expands (used : List Bool) (op : Op) : Type 0 where

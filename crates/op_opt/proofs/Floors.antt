@@ -1,6 +1,6 @@
 -- Values with the same floors where they are used: they stay so up to a Convert to a whole type, which makes them the same.
-use Rattle.std.proofs.Common.{◌≡◌, ℕ, zero, suc, ◌+◌, ◌^◌, ◌<◌, Bool, true, false, not, ◌&&◌, ◌||◌, List, [], ◌∷◌, ℤ, pos, All, nat_eq, eq-eqb, eqb-true, subst, refl, sym, ◌∙◌, ap, arith}
-use Rattle.std.specs.Prelude.{Option, Some, None, slice_index, slice_index_or}
+use Rattle.std.proofs.Common.{◌≡◌, ℕ, ◌^◌, ◌<◌, Bool, true, false, ◌&&◌, List, ◌∷◌, All, nat_eq, eq-eqb, refl, sym, ◌∙◌, ap}
+use Rattle.std.specs.Prelude.{Option, Some, None, slice_index}
 use Rattle.std.specs.Int.{int_min, int_max}
 use Rattle.std.proofs.lemmas.Bool.{and_parts, and_from}
 use Rattle.frac_math.specs.Fraction.{ℚ, nat, whole, floor, min_ℚ, max_ℚ}
@@ -13,14 +13,14 @@ use Rattle.op_list.specs.declared.op.Op.{Op}
 use Rattle.op_list.specs.declared.op.Op.TheVariants.{Clear, Swizzle, Convert, Min, Max}
 use Rattle.op_list.specs.declared.values.Values.{Values}
 use Rattle.op_list.specs.declared.values.Values.TheVariants.{Numbers, Fractions}
-use Rattle.op_list.specs.Types.{is_whole_type, bits}
-use Rattle.op_list.specs.Typing.{may_follow, are_good, stage_after, stage_from, are_typed, ends_with_write}
+use Rattle.op_list.specs.Types.{is_whole_type}
+use Rattle.op_list.specs.Typing.{stage_after, are_typed, ends_with_write}
 use Rattle.op_list.specs.Values.{four, fraction, fraction_in, entry, are_fractions}
 use Rattle.op_list.specs.Whole.{modulo}
 use Rattle.op_list.specs.Apply.{apply, cleared, cleared_fraction, swizzled, as_numbers, converted, at_most, at_least}
 use Rattle.op_list.specs.Run.{run_from}
 use Rattle.op_list.proofs.Applied.{swizzle_lanes}
-use Rattle.op_range.specs.Ranges.{is_whole_number, is_whole_limit}
+use Rattle.op_range.specs.Ranges.{is_whole_limit}
 use Rattle.op_range.specs.Used.{is_used, any_of_four, is_missing, used_before, used_from, Agree}
 use Rattle.op_list.proofs.Four.{get_or-four}
 use Rattle.op_range.proofs.AnyOfFour.{any_from}
@@ -28,8 +28,7 @@ use Rattle.op_range.proofs.Agreeing.{agree_numbers}
 use Rattle.op_range.proofs.Within.{whole_is}
 use Rattle.op_range.proofs.UsedSteps.{index_below, unused_free}
 use Rattle.op_opt.specs.DropDither.{are_whole, lead_to_floors}
-use Rattle.op_opt.specs.OfFour.{all_of_four}
-use Rattle.op_opt.proofs.Tests.{all_at}
+use Rattle.op_opt.proofs.PassedTests.{all_at}
 use Rattle.op_list.proofs.Typed.{typed_parts}
 use Rattle.op_list.proofs.Wholes.{last_behind}
 

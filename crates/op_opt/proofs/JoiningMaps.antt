@@ -1,23 +1,22 @@
 -- Two linear maps as one.
-use Rattle.std.proofs.Common.{◌≡◌, ℕ, zero, suc, ◌+◌, ◌<◌, ◌≤◌, Bool, true, false, not, if◌then◌else◌, List, [], ◌∷◌, ◌++◌, pos, subst, refl, sym, ◌∙◌, ap, arith}
-use Rattle.std.specs.Prelude.{Option, Some, None}
-use Rattle.std.specs.Option.{option_and_then}
+use Rattle.std.proofs.Common.{◌≡◌, ℕ, zero, suc, ◌<◌, ◌≤◌, true, false, not, List, [], ◌∷◌, pos, subst, refl, sym, ◌∙◌, ap, arith}
+use Rattle.std.specs.Prelude.{Option, Some}
 use Rattle.std.proofs.lemmas.Option.{same_Some, none-some, option_and_then_some}
 use Rattle.std.proofs.lemmas.Bool.{and_from}
-use Rattle.frac_math.specs.Fraction.{ℚ, nat, whole, ◌+ℚ◌, ◌*ℚ◌}
-use Rattle.frac_math.specs.Checked.{checked_sum, checked_product}
+use Rattle.frac_math.specs.Fraction.{ℚ, nat, ◌+ℚ◌, ◌*ℚ◌}
+use Rattle.frac_math.specs.Checked.{checked_product}
 use Rattle.frac_math.proofs.Ring.{var, num, ◌⊕◌, ◌⊗◌, ring}
-use Rattle.frac_math.proofs.FractionRing.{fractions, mul_comm, mul_assoc}
+use Rattle.frac_math.proofs.FractionRing.{fractions}
 use Rattle.op_list.specs.declared.types.Stage.{Stage}
 use Rattle.op_list.specs.declared.position.PixelPosition.{PixelPosition}
 use Rattle.op_list.specs.declared.op.Op.{Op}
 use Rattle.op_list.specs.declared.op.Op.TheVariants.{Linear, Scale}
 use Rattle.op_list.specs.declared.values.Values.{Values}
 use Rattle.op_list.specs.declared.values.Values.TheVariants.{Fractions}
-use Rattle.op_list.specs.Typing.{may_follow, are_good, stage_after, stage_from, are_typed, is_write}
+use Rattle.op_list.specs.Typing.{may_follow, are_good, stage_after, stage_from, is_write}
 use Rattle.op_list.specs.Types.{is_rational}
 use Rattle.op_list.proofs.Typed.{typed_parts, typed_from, typed_none}
-use Rattle.op_list.specs.Values.{four, all_four, fraction, fraction_in}
+use Rattle.op_list.specs.Values.{four, fraction, fraction_in}
 use Rattle.op_list.specs.Apply.{apply, row_of, row_value}
 use Rattle.op_list.specs.Run.{run_from}
 use Rattle.op_list.proofs.Exact.{checked_sum-exact, checked_product-exact, all_four-exact}
@@ -27,10 +26,9 @@ use Rattle.op_opt.specs.declared.change.Change.{Change}
 use Rattle.op_opt.specs.Changes.{taking}
 use Rattle.op_opt.specs.JoinMaps.{diagonal, plus_product, checked_dot, column_of, joined_row, joined_rows, join_maps}
 use Rattle.op_opt.specs.Weight.{weight, weight_of}
-use Rattle.op_opt.specs.OfFour.{count_of_four}
 use Rattle.op_list.specs.Identity.{is_identity_row}
 use Rattle.op_opt.proofs.JoiningSwizzles.{at_most_four}
-use Rattle.op_opt.proofs.Replacing.{IsSound, Replaces, Replacement, At}
+use Rattle.op_opt.proofs.Replacing.{IsSound, Replaces, Replacement}
 
 -- ---- the exact answers of the checked sums
 plus_exact : (row : List ℚ) (column : ℕ → ℚ) (k : ℕ) (total : Option ℚ) (t z : ℚ) → ((x : ℚ) → total ≡ Some x → t ≡ x) → plus_product row column k total ≡ Some z → t +ℚ fraction_in row k *ℚ column k ≡ z

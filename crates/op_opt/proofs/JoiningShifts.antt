@@ -1,12 +1,12 @@
 -- Join two shifts.
-use Rattle.std.proofs.Common.{◌≡◌, ℕ, ◌+◌, ◌-◌, ◌*◌, ◌/◌, ◌%◌, ◌^◌, ◌<◌, ◌≤◌, Greater, Bool, true, false, not, ◌&&◌, ◌||◌, if◌then◌else◌, List, [], ◌∷◌, lt-ltb, ltb-true, leb-true, pow_pos, mod-eq_of_lt, subst, refl, sym, ◌∙◌, ap, arith}
+use Rattle.std.proofs.Common.{◌≡◌, ℕ, ◌+◌, ◌-◌, ◌*◌, ◌/◌, ◌%◌, ◌^◌, ◌<◌, ◌≤◌, Bool, true, false, not, ◌||◌, if◌then◌else◌, List, [], ◌∷◌, lt-ltb, ltb-true, leb-true, pow_pos, mod-eq_of_lt, subst, refl, sym, ◌∙◌, ap, arith}
 use Rattle.std.specs.Prelude.{Option, Some, None, IfSome, nat_lt, nat_le}
 use Rattle.std.proofs.lemmas.Option.{same_Some, none-some, option_and_then_some}
-use Rattle.std.proofs.lemmas.Bool.{and_parts, and_from, both_ways}
+use Rattle.std.proofs.lemmas.Bool.{and_from, both_ways}
 use Rattle.std.proofs.lemmas.Nat.{pow-add, shr-shr, shl-shr, mul-mod_second}
 use Rattle.std.proofs.Math.Nat.{mul_comm, mul_assoc, mul-le-mul_right, mul-le-mul_left, pow-le-pow_right}
 use Rattle.frac_math.specs.Fraction.{ℚ, nat, is_at_most, order, ◌≤ℚ◌}
-use Rattle.frac_math.proofs.FractionOrder.{most_false, le_trans_ℚ, order_is, lt_not_le_ℚ}
+use Rattle.frac_math.proofs.FractionOrder.{le_trans_ℚ, order_is, lt_not_le_ℚ}
 use Rattle.op_list.specs.declared.types.Stage.{Stage}
 use Rattle.op_list.specs.declared.position.PixelPosition.{PixelPosition}
 use Rattle.op_list.specs.declared.op.Op.{Op}
@@ -15,7 +15,7 @@ use Rattle.op_list.specs.declared.values.Values.{Values}
 use Rattle.op_list.specs.declared.values.Values.TheVariants.{Numbers}
 use Rattle.op_list.specs.Types.{bits_at, is_whole, is_rational}
 use Rattle.op_list.specs.Typing.{may_follow, are_good, stage_after, stage_from, are_typed, is_write}
-use Rattle.op_list.specs.Values.{four, number, are_fractions}
+use Rattle.op_list.specs.Values.{four, number}
 use Rattle.op_list.specs.Apply.{apply}
 use Rattle.op_list.specs.Run.{run_from}
 use Rattle.op_list.proofs.Applied.{whole_not_rational, left_shift}
@@ -23,17 +23,15 @@ use Rattle.op_list.proofs.Four.{get_or-four}
 use Rattle.op_list.proofs.Typed.{typed_parts}
 use Rattle.op_list.proofs.Wholes.{last_behind}
 use Rattle.op_range.specs.declared.range.ValueRange.{ValueRange}
-use Rattle.op_range.specs.Ranges.{range_in, is_there_and}
-use Rattle.op_range.specs.Within.{AreWithin, IsWithin}
+use Rattle.op_range.specs.Ranges.{range_in}
 use Rattle.op_range.specs.Used.{is_used, used_from, Agree}
 use Rattle.op_range.proofs.Agreeing.{agree_numbers}
 use Rattle.op_range.proofs.Compared.{at_most_not_above}
 use Rattle.op_range.proofs.Within.{number_at, nat_le_ℚ}
 use Rattle.op_opt.specs.declared.change.Change.{Change}
-use Rattle.op_opt.specs.JoinShifts.{has_room, used_have_room, shift_between, sum_below, join_shifts}
-use Rattle.op_opt.specs.OfFour.{all_of_four}
+use Rattle.op_opt.specs.JoinShifts.{has_room, used_have_room, sum_below, join_shifts}
 use Rattle.op_opt.specs.Weight.{weight, weight_of}
-use Rattle.op_opt.proofs.Tests.{chosen, from_not, if_used, all_at}
+use Rattle.op_opt.proofs.PassedTests.{chosen, from_not, if_used, all_at}
 use Rattle.op_opt.proofs.Replacing.{IsSound, Replaces, Replacement, At, same_by_agreement}
 
 -- ---- numbers
@@ -142,8 +140,8 @@ agrees_after : (frame : List ℕ) (position : PixelPosition) (stage : Stage) (us
 agrees_after frame position stage used a b g f1 f2 f v sa sb sg same =
     let count = bits_at stage in
     let two : run_from frame position stage (a ∷ b ∷ []) v ≡ shifted (f2 count) (shifted (f1 count) v) =
-        runs_two frame position stage a b v ∙ ap (λ s. apply frame position s b (apply frame position stage a v)) (sa.leaves stage)
-        ∙ sb.applies frame position stage (apply frame position stage a v) ∙ ap (λ w. shifted (f2 count) w) (sa.applies frame position stage v) in
+    runs_two frame position stage a b v ∙ ap (λ s. apply frame position s b (apply frame position stage a v)) (sa.leaves stage)
+    ∙ sb.applies frame position stage (apply frame position stage a v) ∙ ap (λ w. shifted (f2 count) w) (sa.applies frame position stage v) in
     subst (λ (w : Values). Agree used (run_from frame position stage (g ∷ []) v) w) (sym two)
     (subst (λ (w : Values). Agree used w (shifted (f2 count) (shifted (f1 count) v))) (sym (runs_one frame position stage g v ∙ sg.applies frame position stage v))
     (twice_agrees used (f1 count) (f2 count) (f count) v same))
@@ -156,9 +154,10 @@ replaces : (stage : Stage) (ranges : List ValueRange) (a b g : Op) (f1 f2 f : �
 replaces stage ranges a b g f1 f2 f rest sa sb sg good same = record {
   inner = and_from _ _ (ap not sa.inner) (and_from _ true (ap not sb.inner) refl);
   lighter = lighter a b g sa.weighs sb.weighs sg.weighs;
-  typed = λ h.
-      (one_typed stage g (sg.follows stage ∙ sym (sa.follows stage) ∙ (typed_parts stage a (b ∷ []) h).0) (good h),
-      one_leaves stage a b g (sa.leaves stage) (sb.leaves stage) (sg.leaves stage));
+  typed = λ h. (
+    one_typed stage g (sg.follows stage ∙ sym (sa.follows stage) ∙ (typed_parts stage a (b ∷ []) h).0) (good h),
+    one_leaves stage a b g (sa.leaves stage) (sb.leaves stage) (sg.leaves stage),
+  );
   same = λ frame position v at.
       same_by_agreement frame position stage (a ∷ b ∷ []) rest (Some g) v at.typed
       (last_behind b rest sb.inner (last_behind a (b ∷ rest) sa.inner at.last))

@@ -1,6 +1,6 @@
 -- Two swizzles as one.
-use Rattle.std.proofs.Common.{◌≡◌, ℕ, ◌+◌, ◌<◌, ◌≤◌, Bool, true, false, not, ◌&&◌, if◌then◌else◌, List, [], ◌∷◌, ◌++◌, All, lt-ltb, subst, refl, sym, ◌∙◌, ap, arith}
-use Rattle.std.specs.Prelude.{Option, Some, None, slice_index, nat_eq, nat_lt}
+use Rattle.std.proofs.Common.{◌≡◌, ℕ, ◌<◌, ◌≤◌, Bool, true, false, not, if◌then◌else◌, List, [], ◌∷◌, All, lt-ltb, subst, refl, sym, ◌∙◌, ap, arith}
+use Rattle.std.specs.Prelude.{Some, slice_index, nat_eq, nat_lt}
 use Rattle.std.specs.List.{list_all}
 use Rattle.std.proofs.lemmas.Option.{same_Some, none-some}
 use Rattle.op_list.specs.declared.types.Stage.{Stage}
@@ -24,7 +24,7 @@ use Rattle.op_opt.specs.declared.change.Change.{Change}
 use Rattle.op_opt.specs.JoinSwizzles.{join_swizzles}
 use Rattle.op_opt.specs.Weight.{weight, weight_of}
 use Rattle.op_opt.specs.OfFour.{count_of_four}
-use Rattle.op_opt.proofs.Replacing.{IsSound, Replaces, Replacement, ops_of, At}
+use Rattle.op_opt.proofs.Replacing.{IsSound, Replaces, Replacement}
 
 -- ---- the weight
 pub at_most_four : (test : ℕ → Bool) → count_of_four test ≤ 4

@@ -1,4 +1,4 @@
-pub mod Tests
+pub mod PassedTests
 pub mod Replacing
 pub mod Unchanged
 pub mod JoiningSwizzles

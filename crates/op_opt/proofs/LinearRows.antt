@@ -1,5 +1,5 @@
 -- Rows of a linear map that give a value, or a multiple of it.
-use Rattle.std.proofs.Common.{◌≡◌, ℕ, zero, suc, ◌<◌, Bool, true, ◌&&◌, List, refl, sym, ◌∙◌, ap, arith}
+use Rattle.std.proofs.Common.{◌≡◌, ℕ, zero, suc, ◌<◌, Bool, true, ◌&&◌, List, refl, sym, ◌∙◌, arith}
 use Rattle.std.proofs.lemmas.Bool.{and_parts}
 use Rattle.frac_math.specs.Fraction.{ℚ, nat, equal_ℚ, ◌*ℚ◌}
 use Rattle.frac_math.proofs.FractionRing.{equal_is, mul-one}

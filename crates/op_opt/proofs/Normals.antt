@@ -1,13 +1,12 @@
 -- The normal list is reached, and writes the same.
-use Rattle.std.proofs.Common.{◌≡◌, ℕ, zero, suc, ◌+◌, ◌<◌, ◌≤◌, Bool, true, List, [], ◌∷◌, length, All, refl, sym, ◌∙◌, ap, subst, arith}
-use Rattle.std.specs.Prelude.{Option, Some, None, Result, Ok, Err, IfOk}
+use Rattle.std.proofs.Common.{◌≡◌, ℕ, zero, suc, ◌<◌, ◌≤◌, true, List, All, refl, sym, ◌∙◌, ap, arith}
+use Rattle.std.specs.Prelude.{Some, None, Result, Ok, Err, IfOk}
 use Rattle.op_list.specs.declared.types.Stage.TheVariants.{Start}
 use Rattle.op_list.specs.declared.position.PixelPosition.{PixelPosition}
 use Rattle.op_list.specs.declared.op.Op.{Op}
-use Rattle.op_list.specs.declared.values.Values.{Values}
-use Rattle.op_list.specs.Typing.{are_typed, ends_with_write, IsOpList}
+use Rattle.op_list.specs.Typing.{ends_with_write, IsOpList}
 use Rattle.op_list.specs.Values.{four, number, no_values}
-use Rattle.op_list.specs.Run.{run_from, run}
+use Rattle.op_list.specs.Run.{run}
 use Rattle.op_range.specs.Ranges.{start_ranges, only_zero, range_in}
 use Rattle.op_range.specs.Within.{AreWithin, IsWithin, value_of}
 use Rattle.frac_math.specs.Fraction.{nat}
@@ -16,9 +15,8 @@ use Rattle.op_range.specs.Within.{AreSmall}
 use Rattle.op_opt.specs.Weight.{weight}
 use Rattle.op_opt.specs.declared.edit.Edit.{Edit}
 use Rattle.op_opt.specs.Edits.{edited}
-use Rattle.op_opt.specs.Normal.{step, next_or, normal_within, normal, IsNormal}
+use Rattle.op_opt.specs.Normal.{step, next_or, normal_within, normal}
 use Rattle.op_opt.specs.Passes.{change_at}
-use Rattle.op_opt.specs.declared.pass.Pass.{Pass}
 use Rattle.op_opt.proofs.Places.{applies_nowhere}
 use Rattle.op_opt.specs.Laws.{IsImproved, EachPassImproves, IsNormalOf, NormalIsReached}
 use Rattle.op_opt.proofs.Replacing.{At, Improves}

@@ -1,5 +1,5 @@
 -- Where no change comes of a step, no pass applies at any operation.
-use Rattle.std.proofs.Common.{◌≡◌, ℕ, zero, suc, ◌<◌, List, [], ◌∷◌, ◌++◌, length, get_or, subst, refl, sym, ◌∙◌, ap, arith}
+use Rattle.std.proofs.Common.{◌≡◌, ℕ, zero, suc, ◌<◌, List, [], ◌∷◌, ◌++◌, length, get_or, subst, refl, sym, arith}
 use Rattle.std.specs.Prelude.{Option, Some, None}
 use Rattle.std.specs.Option.{option_map}
 use Rattle.std.proofs.lemmas.Option.{none-some}
@@ -9,7 +9,6 @@ use Rattle.op_list.specs.declared.op.Op.{Op}
 use Rattle.op_list.specs.Typing.{stage_after, stage_from}
 use Rattle.op_range.specs.declared.range.ValueRange.{ValueRange}
 use Rattle.op_range.specs.Ranges.{ranges_after, ranges_from, start_ranges}
-use Rattle.op_opt.specs.declared.change.Change.{Change}
 use Rattle.op_opt.specs.declared.pass.Pass.{Pass}
 use Rattle.op_opt.specs.declared.pass.Pass.TheVariants.{DropIdle, JoinSwizzles, JoinShifts, CancelSwaps, TrimClear, TrimClamp}
 use Rattle.op_opt.specs.declared.pass.Pass.TheVariants.{DropDither, JoinMaps, SkipFraction, ExpandBytes, ResetUnused, CancelPacking}

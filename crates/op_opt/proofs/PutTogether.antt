@@ -1,6 +1,6 @@
 -- A list that is put together from the operations before a change, the one that it gives, and those behind it.
-use Rattle.std.proofs.Common.{◌≡◌, ◌≤◌, List, [], ◌∷◌, ◌++◌, length, get_or, append_assoc, subst, refl, sym, ◌∙◌, ap, arith}
-use Rattle.std.specs.Prelude.{Option, Some, None}
+use Rattle.std.proofs.Common.{◌≡◌, ◌≤◌, List, [], ◌∷◌, ◌++◌, length, get_or, append_assoc, subst, sym, arith}
+use Rattle.std.specs.Prelude.{Option, Some}
 use Rattle.op_list.specs.declared.op.Op.{Op}
 use Rattle.op_list.specs.Typing.{IsOpList}
 use Rattle.op_list.proofs.Typed.{front_is_list}

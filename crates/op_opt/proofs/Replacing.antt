@@ -1,5 +1,5 @@
 -- What a pass owes where it applies, and what follows for the list from there on.
-use Rattle.std.proofs.Common.{◌≡◌, ℕ, ◌+◌, ◌<◌, ◌≤◌, Bool, true, false, not, ◌&&◌, List, [], ◌∷◌, ◌++◌, length, drop, All, length-append, subst, refl, sym, ◌∙◌, ap, arith}
+use Rattle.std.proofs.Common.{◌≡◌, ℕ, ◌+◌, ◌<◌, ◌≤◌, true, not, List, [], ◌∷◌, ◌++◌, length, drop, All, length-append, subst, refl, sym, ◌∙◌, ap, arith}
 use Rattle.std.specs.Prelude.{Option, Some, None}
 use Rattle.std.specs.List.{list_all}
 use Rattle.op_list.specs.declared.types.Stage.{Stage}
@@ -7,7 +7,7 @@ use Rattle.op_list.specs.declared.position.PixelPosition.{PixelPosition}
 use Rattle.op_list.specs.declared.op.Op.{Op}
 use Rattle.op_list.specs.declared.values.Values.{Values}
 use Rattle.op_list.specs.Types.{is_rational}
-use Rattle.op_list.specs.Typing.{may_follow, are_good, stage_after, stage_from, are_typed, is_write, ends_with_write}
+use Rattle.op_list.specs.Typing.{stage_after, stage_from, are_typed, is_write, ends_with_write}
 use Rattle.op_list.specs.Values.{are_fractions}
 use Rattle.op_list.specs.Apply.{apply}
 use Rattle.op_list.specs.Run.{run_from}
@@ -26,7 +26,7 @@ use Rattle.op_range.proofs.SmallSteps.{numbers_stay_small}
 use Rattle.op_range.proofs.UsedSteps.{unused_free}
 use Rattle.op_opt.specs.declared.change.Change.{Change}
 use Rattle.op_opt.specs.Changes.{Rule, with_given, changed}
-use Rattle.op_opt.specs.Weight.{weight, weight_of}
+use Rattle.op_opt.specs.Weight.{weight}
 use Rattle.op_list.proofs.Typed.{typed_parts, typed_from, typed_fronts}
 use Rattle.op_list.proofs.Wholes.{before_other, last_behind, last_before, last_behind_all}
 

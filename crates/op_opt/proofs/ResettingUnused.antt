@@ -1,6 +1,6 @@
 -- Reset what is not used.
-use Rattle.std.proofs.Common.{◌≡◌, ℕ, zero, suc, ◌+◌, ◌<◌, Bool, true, false, not, ◌&&◌, if◌then◌else◌, List, [], ◌∷◌, All, get_or, nat_eq, eq-eqb, lt-ltb, subst, refl, sym, ◌∙◌, ap, arith}
-use Rattle.std.specs.Prelude.{Option, Some, None, slice_index, nat_lt}
+use Rattle.std.proofs.Common.{◌≡◌, ℕ, zero, suc, ◌<◌, Bool, true, false, not, ◌&&◌, if◌then◌else◌, List, [], ◌∷◌, All, get_or, nat_eq, eq-eqb, lt-ltb, subst, refl, ◌∙◌, ap, arith}
+use Rattle.std.specs.Prelude.{Some, slice_index, nat_lt}
 use Rattle.std.specs.List.{list_all}
 use Rattle.std.proofs.lemmas.Option.{same_Some, none-some, option_and_then_some}
 use Rattle.std.proofs.lemmas.Bool.{and_parts, and_from}
@@ -28,9 +28,9 @@ use Rattle.op_opt.specs.declared.change.Change.{Change}
 use Rattle.op_opt.specs.OfFour.{count_of_four, lowest}
 use Rattle.op_opt.specs.ResetUnused.{identity_row, reset_row, reset_index, reset_unused}
 use Rattle.op_opt.specs.Weight.{weight, weight_of}
-use Rattle.op_opt.proofs.Tests.{from_not}
+use Rattle.op_opt.proofs.PassedTests.{from_not}
 use Rattle.op_opt.proofs.Dropping.{lowest_passes, by_place, one_unused}
-use Rattle.op_opt.proofs.Replacing.{IsSound, Replaces, Replacement, At, same_by_agreement}
+use Rattle.op_opt.proofs.Replacing.{IsSound, Replaces, Replacement, same_by_agreement}
 
 -- ---- one fewer of four
 count : Bool → ℕ
@@ -117,7 +117,7 @@ index_good false j k h g = g
 indices_below : (from : List ℕ) (i : ℕ) → All (λ k. k < 4) from → list_all (λ k. nat_lt k 4) (reset_index from i) ≡ true
 indices_below from i good =
     let each : (j : ℕ) → nat_lt j 4 ≡ true → nat_lt (if nat_eq j i then j else slice_index from j) 4 ≡ true =
-        λ j h. index_good (nat_eq j i) j (slice_index from j) h (lt-ltb (slice_index from j) 4 (index_below from good j)) in
+    λ j h. index_good (nat_eq j i) j (slice_index from j) h (lt-ltb (slice_index from j) 4 (index_below from good j)) in
     and_from _ _ (each 0 refl) (and_from _ _ (each 1 refl) (and_from _ _ (each 2 refl) (and_from _ true (each 3 refl) refl)))
 
 indices_typed : (stage : Stage) (from : List ℕ) (i : ℕ) → are_typed stage (Swizzle from ∷ []) ≡ true

@@ -1,9 +1,9 @@
 -- From a whole type to a whole type without a fraction between.
-use Rattle.std.proofs.Common.{◌≡◌, ℕ, ◌+◌, ◌*◌, ◌%◌, ◌^◌, ◌<◌, Bool, true, false, not, ◌&&◌, if◌then◌else◌, List, [], ◌∷◌, ◌++◌, pos, subst, refl, sym, ◌∙◌, ap, arith}
-use Rattle.std.specs.Prelude.{Option, Some, None, slice_index}
+use Rattle.std.proofs.Common.{◌≡◌, ℕ, ◌*◌, ◌%◌, ◌^◌, ◌<◌, Bool, true, false, not, ◌&&◌, List, [], ◌∷◌, pos, subst, refl, sym, ◌∙◌, ap, arith}
+use Rattle.std.specs.Prelude.{Some, slice_index}
 use Rattle.std.proofs.lemmas.Option.{same_Some, none-some}
 use Rattle.std.proofs.lemmas.Bool.{and_parts, and_from}
-use Rattle.frac_math.specs.Fraction.{ℚ, nat, floor}
+use Rattle.frac_math.specs.Fraction.{nat, floor}
 use Rattle.frac_math.proofs.Floor.{floor_whole}
 use Rattle.op_list.specs.declared.types.PixType.{PixType}
 use Rattle.op_list.specs.declared.types.PixType.TheVariants.{U8, U16, U32, Rat}
@@ -14,7 +14,7 @@ use Rattle.op_list.specs.declared.op.Op.{Op}
 use Rattle.op_list.specs.declared.op.Op.TheVariants.{Convert}
 use Rattle.op_list.specs.declared.values.Values.{Values}
 use Rattle.op_list.specs.declared.values.Values.TheVariants.{Numbers, Fractions}
-use Rattle.op_list.specs.Types.{is_whole, is_whole_type, is_same, is_rational}
+use Rattle.op_list.specs.Types.{is_whole, is_whole_type, is_same}
 use Rattle.op_list.specs.Typing.{may_follow, are_good, stage_after, stage_from, are_typed}
 use Rattle.op_list.specs.Values.{four, fraction_in, are_fractions}
 use Rattle.op_list.specs.Whole.{modulo}
@@ -27,8 +27,8 @@ use Rattle.op_opt.specs.declared.change.Change.{Change}
 use Rattle.op_opt.specs.SkipFraction.{skip_fraction}
 use Rattle.op_opt.specs.Weight.{weight, weight_of}
 use Rattle.op_list.proofs.Typed.{typed_parts}
-use Rattle.op_opt.proofs.Tests.{chosen}
-use Rattle.op_opt.proofs.Replacing.{IsSound, Replaces, Replacement, At}
+use Rattle.op_opt.proofs.PassedTests.{chosen}
+use Rattle.op_opt.proofs.Replacing.{IsSound, Replaces, Replacement}
 
 lighter : (to : PixType) (first expand : Bool) → weight (Convert to false ∷ []) < weight (Convert Rat first ∷ Convert to expand ∷ [])
 unfolding weight weight_of

@@ -1,9 +1,9 @@
 -- A Min or a Max without the entry of a value that is not used, or that lies within the limit.
-use Rattle.std.proofs.Common.{◌≡◌, ℕ, ◌+◌, ◌<◌, Bool, true, false, not, ◌&&◌, ◌||◌, List, [], ◌∷◌, ◌++◌, subst, refl, sym, ◌∙◌, ap, arith, eq-eqb}
-use Rattle.std.specs.Prelude.{Option, Some, None, IfSome, nat_eq}
+use Rattle.std.proofs.Common.{◌≡◌, ℕ, ◌<◌, Bool, true, not, ◌&&◌, ◌||◌, List, [], ◌∷◌, subst, refl, sym, ◌∙◌, ap, arith, eq-eqb}
+use Rattle.std.specs.Prelude.{Option, Some, None, IfSome}
 use Rattle.std.proofs.lemmas.Option.{same_Some, none-some, option_and_then_some}
-use Rattle.std.proofs.lemmas.Bool.{and_parts, and_from, both_ways}
-use Rattle.frac_math.specs.Fraction.{ℚ, min_ℚ, max_ℚ, is_at_most, ◌≤ℚ◌}
+use Rattle.std.proofs.lemmas.Bool.{and_parts}
+use Rattle.frac_math.specs.Fraction.{ℚ, min_ℚ, max_ℚ, ◌≤ℚ◌}
 use Rattle.frac_math.proofs.FractionOrder.{min_cases, max_cases, most_true, le_antisymm_ℚ, le_trans_ℚ}
 use Rattle.op_list.specs.declared.types.Stage.{Stage}
 use Rattle.op_list.specs.declared.position.PixelPosition.{PixelPosition}
@@ -18,7 +18,7 @@ use Rattle.op_list.specs.Apply.{apply, at_most, at_least}
 use Rattle.op_list.specs.Run.{run_from}
 use Rattle.op_range.specs.declared.range.ValueRange.{ValueRange}
 use Rattle.op_range.specs.Ranges.{range_in}
-use Rattle.op_range.specs.Within.{value_of, IsWithin, AreWithin}
+use Rattle.op_range.specs.Within.{value_of, AreWithin}
 use Rattle.op_range.specs.Used.{is_used, used_from, Agree}
 use Rattle.op_range.proofs.Agreeing.{agree_fractions}
 use Rattle.op_opt.specs.declared.change.Change.{Change}
@@ -28,9 +28,9 @@ use Rattle.op_opt.specs.TrimClamp.{trim_clamp, is_known_at_most}
 use Rattle.op_opt.specs.Weight.{weight, weight_of}
 use Rattle.op_list.proofs.Typed.{typed_parts}
 use Rattle.op_list.proofs.Wholes.{last_behind}
-use Rattle.op_opt.proofs.Tests.{if_used}
-use Rattle.op_opt.proofs.Replacing.{IsSound, Replaces, Replacement, At, same_by_agreement}
-use Rattle.op_opt.proofs.Dropping.{lowest_passes, other_entry, dropped_entry, by_place, one_unused, fewer_entries}
+use Rattle.op_opt.proofs.PassedTests.{if_used}
+use Rattle.op_opt.proofs.Replacing.{IsSound, Replaces, Replacement, same_by_agreement}
+use Rattle.op_opt.proofs.Dropping.{lowest_passes, other_entry, dropped_entry, by_place, fewer_entries}
 
 -- ---- a limit that changes nothing
 min_left : (x y : ℚ) → x ≤ℚ y → min_ℚ x y ≡ x

@@ -1,6 +1,6 @@
 -- A Clear without the entry of a value that is not used.
-use Rattle.std.proofs.Common.{◌≡◌, ℕ, ◌+◌, ◌<◌, Bool, true, false, not, ◌&&◌, ◌||◌, List, [], ◌∷◌, ◌++◌, subst, refl, sym, ◌∙◌, ap, arith}
-use Rattle.std.specs.Prelude.{Option, Some, None, slice_index}
+use Rattle.std.proofs.Common.{◌≡◌, ℕ, ◌<◌, Bool, true, false, not, ◌&&◌, ◌||◌, List, [], ◌∷◌, subst, refl, ap, arith}
+use Rattle.std.specs.Prelude.{Option, Some, slice_index}
 use Rattle.std.proofs.lemmas.Option.{same_Some, none-some, option_and_then_some}
 use Rattle.std.proofs.lemmas.Bool.{and_parts, and_from}
 use Rattle.frac_math.specs.Fraction.{ℚ}
@@ -12,22 +12,21 @@ use Rattle.op_list.specs.declared.values.Values.{Values}
 use Rattle.op_list.specs.declared.values.Values.TheVariants.{Numbers, Fractions}
 use Rattle.op_list.specs.Types.{is_rational, bits_at}
 use Rattle.op_list.specs.Typing.{may_follow, are_good, stage_after, stage_from, are_typed, all_fit}
-use Rattle.op_list.specs.Values.{four, entry, fraction_in}
+use Rattle.op_list.specs.Values.{entry, fraction_in}
 use Rattle.op_list.specs.Apply.{apply, cleared, cleared_number, cleared_fraction}
 use Rattle.op_list.specs.Run.{run_from}
 use Rattle.op_range.specs.declared.range.ValueRange.{ValueRange}
 use Rattle.op_range.specs.Used.{is_used, used_from, Agree}
 use Rattle.op_range.proofs.Agreeing.{agree_numbers, agree_fractions}
 use Rattle.op_opt.specs.declared.change.Change.{Change}
-use Rattle.op_opt.specs.Changes.{taking}
 use Rattle.op_opt.specs.Entries.{without, is_given}
 use Rattle.op_opt.specs.OfFour.{lowest}
 use Rattle.op_opt.specs.TrimClear.{trim_clear}
 use Rattle.op_opt.specs.Weight.{weight, weight_of}
 use Rattle.op_list.proofs.Typed.{typed_parts}
 use Rattle.op_list.proofs.Wholes.{last_behind}
-use Rattle.op_opt.proofs.Tests.{from_not}
-use Rattle.op_opt.proofs.Replacing.{IsSound, Replaces, Replacement, At, same_by_agreement}
+use Rattle.op_opt.proofs.PassedTests.{from_not}
+use Rattle.op_opt.proofs.Replacing.{IsSound, Replaces, Replacement, same_by_agreement}
 use Rattle.op_opt.proofs.Dropping.{lowest_passes, other_entry, by_place, one_unused, without_fits, fewer_entries}
 
 lighter : (entries : List (Option ℚ)) (i : ℕ) → i < 4 → is_given (entry entries i) ≡ true → weight (Clear (without entries i) ∷ []) < weight (Clear entries ∷ [])

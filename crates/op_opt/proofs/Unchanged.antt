@@ -1,6 +1,6 @@
 -- Values, and operations that leave the used ones as they are.
-use Rattle.std.proofs.Common.{◌≡◌, ℕ, ◌+◌, ◌<◌, ◌≤◌, Bool, true, false, not, List, [], ◌∷◌, refl, sym, ◌∙◌, ap, arith}
-use Rattle.std.specs.Prelude.{Option, Some, None}
+use Rattle.std.proofs.Common.{◌≡◌, ℕ, ◌<◌, ◌≤◌, Bool, true, false, not, List, [], ◌∷◌, refl, sym, ◌∙◌, ap, arith}
+use Rattle.std.specs.Prelude.{None}
 use Rattle.std.proofs.lemmas.Bool.{and_from}
 use Rattle.frac_math.specs.Fraction.{ℚ, nat}
 use Rattle.op_list.specs.declared.types.Stage.{Stage}
@@ -10,7 +10,7 @@ use Rattle.op_list.specs.declared.op.Op.TheVariants.{Read, Write, SwapBytes, Unp
 use Rattle.op_list.specs.declared.op.Op.TheVariants.{Dither, Linear, Scale, Min, Max}
 use Rattle.op_list.specs.declared.values.Values.{Values}
 use Rattle.op_list.specs.declared.values.Values.TheVariants.{Numbers, Fractions}
-use Rattle.op_list.specs.Typing.{stage_after, stage_from, are_typed, is_write}
+use Rattle.op_list.specs.Typing.{stage_after, stage_from, is_write}
 use Rattle.op_list.specs.Values.{four, number, fraction, are_fractions}
 use Rattle.op_list.specs.Apply.{apply}
 use Rattle.op_list.specs.Run.{run_from}

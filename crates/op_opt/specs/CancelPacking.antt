@@ -1,5 +1,5 @@
 -- Cancel unpack and pack: of the same widths, which come to all bits, where what follows uses value 0 alone.
-use Rattle.std.specs.Prelude.{ℕ, Bool, ◌&&◌, ◌||◌, not, if◌then◌else◌, nat_eq, List, ◌∷◌, sum, length, Option, Some, None}
+use Rattle.std.specs.Prelude.{ℕ, Bool, ◌&&◌, not, if◌then◌else◌, nat_eq, List, ◌∷◌, sum, length, Option, None}
 use Rattle.std.specs.Str.{bytes_eq}
 use Rattle.op_list.specs.declared.types.Stage.{Stage}
 use Rattle.op_list.specs.declared.op.Op.{Op}

@@ -1,5 +1,5 @@
 -- No dither where each used value is whole, and only what keeps floors the same stands before the next Convert to a whole type.
-use Rattle.std.specs.Prelude.{ℕ, Bool, true, false, ◌&&◌, ◌||◌, not, if◌then◌else◌, List, [], ◌∷◌, Option, Some, None}
+use Rattle.std.specs.Prelude.{Bool, false, ◌&&◌, ◌||◌, not, if◌then◌else◌, List, ◌∷◌, Option, None}
 use Rattle.frac_math.specs.Fraction.{ℚ}
 use Rattle.op_list.specs.declared.op.Op.{Op}
 use Rattle.op_list.specs.declared.op.Op.TheVariants.{Clear, Swizzle, Convert, Dither, Min, Max}

@@ -1,5 +1,5 @@
 -- Expand bytes by a conversion: bytes that become fractions, 257 times as great, and then words.
-use Rattle.std.specs.Prelude.{ℕ, Bool, true, false, ◌&&◌, ◌||◌, not, if◌then◌else◌, nat_eq, List, ◌∷◌, Option, Some, None}
+use Rattle.std.specs.Prelude.{ℕ, Bool, true, ◌&&◌, ◌||◌, not, if◌then◌else◌, nat_eq, List, ◌∷◌, Option, Some, None}
 use Rattle.frac_math.specs.Fraction.{ℚ, nat, equal_ℚ}
 use Rattle.op_list.specs.declared.types.PixType.{PixType}
 use Rattle.op_list.specs.declared.types.PixType.TheVariants.{U8, U16, Rat}

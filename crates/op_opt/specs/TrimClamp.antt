@@ -1,5 +1,5 @@
 -- A Min or a Max without the entry of the lowest value that is not used after it, or that lies within the limit before it.
-use Rattle.std.specs.Prelude.{ℕ, Bool, true, false, ◌&&◌, ◌||◌, not, List, ◌∷◌, Option, Some, None}
+use Rattle.std.specs.Prelude.{Bool, false, ◌&&◌, ◌||◌, not, List, ◌∷◌, Option, Some, None}
 use Rattle.std.specs.Option.{option_and_then}
 use Rattle.frac_math.specs.Fraction.{ℚ, is_at_most}
 use Rattle.op_list.specs.declared.op.Op.{Op}

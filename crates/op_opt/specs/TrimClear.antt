@@ -1,11 +1,10 @@
 -- A Clear without the entry of the lowest value that is not used after it.
-use Rattle.std.specs.Prelude.{ℕ, Bool, ◌&&◌, not, if◌then◌else◌, nat_eq, List, ◌∷◌, Option, Some, None}
+use Rattle.std.specs.Prelude.{◌&&◌, not, List, ◌∷◌, Option, Some, None}
 use Rattle.std.specs.Option.{option_and_then}
-use Rattle.frac_math.specs.Fraction.{ℚ}
 use Rattle.op_list.specs.declared.op.Op.{Op}
 use Rattle.op_list.specs.declared.op.Op.TheVariants.{Clear}
-use Rattle.op_list.specs.Values.{four, entry}
-use Rattle.op_range.specs.Used.{is_used, is_missing, used_from}
+use Rattle.op_list.specs.Values.{entry}
+use Rattle.op_range.specs.Used.{is_used, used_from}
 use Rattle.op_opt.specs.declared.change.Change.{Change}
 use Rattle.op_opt.specs.Changes.{taking}
 use Rattle.op_opt.specs.Entries.{without, is_given}

@@ -12,7 +12,11 @@ pub fn cancel_packing(stage: Stage, ops: &[Op]) -> Option<Change>
     ensures { result ≡ cancel_packing stage ops.now }
 {
     match ops {
-        [Op::Unpack { widths: fields }, Op::Pack { widths }, rest @ ..] => {
+        [
+            Op::Unpack { widths: fields },
+            Op::Pack { widths },
+            rest @ ..,
+        ] => {
             if fields == widths
                 && fill(stage.bits(), fields)
                 && uses_first_alone(&used_from(rest))
