@@ -12,13 +12,16 @@ use Rattle.op_opt.specs.Changes.{places_after}
 others_of : (op : Op) (ops : List Op) → take (length (op ∷ ops) - 1) ops ≡ ops
 others_of op ops = take_all (length (op ∷ ops) - 1) ops (omega arith)
 
-pub first_and_others : (stage : Stage) (here : List ValueRange) (ops : List Op) (op : Op) (after : List Place) → 1 ≤ length ops → op ≡ get_or ops 0 op
+pub first_and_others : (stage : Stage) (here : List ValueRange) (ops : List Op) (op : Op) (after : List Place) → 1 ≤ length ops
+    → op ≡ get_or ops 0 op
     → after ≡ places_after stage ops here → after ≡ places_after stage (op ∷ take (length ops - 1) (drop 1 ops)) here
 first_and_others stage here [] op after some is along = absurd (omega (arith, some))
 first_and_others stage here (first ∷ rest) op after some is along =
-    along ∙ sym (ap (λ o. places_after stage (o ∷ take (length (first ∷ rest) - 1) rest) here) is ∙ ap (λ r. places_after stage (first ∷ r) here) (others_of first rest))
+    along ∙ sym (ap (λ o. places_after stage (o ∷ take (length (first ∷ rest) - 1) rest) here) is
+    ∙ ap (λ r. places_after stage (first ∷ r) here) (others_of first rest))
 
-pub others_along : (stage there : Stage) (here next : List ValueRange) (ops : List Op) (op : Op) (after others : List Place) → 1 ≤ length ops → op ≡ get_or ops 0 op
+pub others_along : (stage there : Stage) (here next : List ValueRange) (ops : List Op) (op : Op) (after others : List Place)
+    → 1 ≤ length ops → op ≡ get_or ops 0 op
     → after ≡ places_after stage ops here → others ≡ drop 1 after → there ≡ stage_after stage op → next ≡ ranges_after stage op here
     → others ≡ places_after there (take (length ops - 1) (drop 1 ops)) next
 unfolding places_after

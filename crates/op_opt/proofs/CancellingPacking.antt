@@ -1,5 +1,6 @@
 -- Cancel unpack and pack.
-use Rattle.std.proofs.Common.{◌≡◌, ℕ, zero, suc, ◌+◌, ◌*◌, ◌/◌, ◌%◌, ◌^◌, ◌<◌, Bool, true, false, not, ◌&&◌, List, [], ◌∷◌, length, eqb-true, pow_pos, mod-lt, mod-eq_of_lt, subst, refl, sym, ◌∙◌, ap, arith}
+use Rattle.std.proofs.Common.{◌≡◌, ℕ, zero, suc, ◌+◌, ◌*◌, ◌/◌, ◌%◌, ◌^◌, ◌<◌, Bool, true, false, not, ◌&&◌, List, [], ◌∷◌, length}
+use Rattle.std.proofs.Common.{eqb-true, pow_pos, mod-lt, mod-eq_of_lt, subst, refl, sym, ◌∙◌, ap, arith}
 use Rattle.std.specs.Prelude.{None, sum, nat_eq}
 use Rattle.std.specs.Str.{bytes_eq}
 use Rattle.std.proofs.lemmas.Slice.Eq.{bytes_eq-Decides}
@@ -72,18 +73,21 @@ only_first used i alone u below =
     let q = and_parts (not (is_used used 1)) (not (is_used used 2)) p.0 in
     at_index i below q.0 q.1 p.1 u
   where
-    at_index : (k : ℕ) → k < 3 → not (is_used used 1) ≡ true → not (is_used used 2) ≡ true → not (is_used used 3) ≡ true → is_used used (suc k) ≡ true → ⊥
+    at_index : (k : ℕ) → k < 3 → not (is_used used 1) ≡ true → not (is_used used 2) ≡ true → not (is_used used 3) ≡ true
+        → is_used used (suc k) ≡ true → ⊥
     at_index zero h x y z t = both_ways (is_used used 1) (from_not _ x) t
     at_index (suc zero) h x y z t = both_ways (is_used used 2) (from_not _ y) t
     at_index (suc (suc zero)) h x y z t = both_ways (is_used used 3) (from_not _ z) t
     at_index (suc (suc (suc k))) h x y z t = omega arith
 
-first_same : (used : List Bool) (widths : List ℕ) (v : Values) (i : ℕ) → uses_first_alone used ≡ true → packed widths (Numbers (four (λ k. field widths (number v 0) k))) ≡ number v 0
+first_same : (used : List Bool) (widths : List ℕ) (v : Values) (i : ℕ) → uses_first_alone used ≡ true → packed widths (Numbers (four
+    (λ k. field widths (number v 0) k))) ≡ number v 0
     → i < 4 → is_used used i ≡ true → number v i ≡ number (twice widths v) i
 first_same used widths v zero alone same below u = sym same
 first_same used widths v (suc i) alone same below u = absurd (only_first used i alone u (omega arith))
 
-agrees : (used : List Bool) (widths : List ℕ) (v : Values) → uses_first_alone used ≡ true → length widths ≡ 4 → number v 0 < 2 ^ sum widths → are_fractions v ≡ false
+agrees : (used : List Bool) (widths : List ℕ) (v : Values) → uses_first_alone used ≡ true → length widths ≡ 4
+    → number v 0 < 2 ^ sum widths → are_fractions v ≡ false
     → Agree used v (twice widths v)
 agrees used widths v alone size small kind = record {
   kind = kind;
@@ -91,7 +95,8 @@ agrees used widths v alone size small kind = record {
   fractions = λ i below u. no_fraction v i kind;
 }
 
-runs : (frame : List ℕ) (position : PixelPosition) (stage : Stage) (widths : List ℕ) (used : List Bool) (v : Values) → Agree used v (twice widths v)
+runs : (frame : List ℕ) (position : PixelPosition) (stage : Stage) (widths : List ℕ) (used : List Bool) (v : Values)
+    → Agree used v (twice widths v)
     → Agree used (run_from frame position stage [] v) (run_from frame position stage (Unpack widths ∷ Pack widths ∷ []) v)
 unfolding run_from apply stage_after
 runs frame position stage widths used v h = h
@@ -109,7 +114,8 @@ whole_here : (stage : Stage) (widths : List ℕ) (rest : List Op) → are_typed 
 unfolding may_follow
 whole_here stage widths rest h = whole_not_rational stage (typed_parts stage (Unpack widths) rest h).0
 
-replaces : (stage : Stage) (ranges : List ValueRange) (widths : List ℕ) (rest : List Op) → length widths ≡ 4 → sum widths ≡ bits_at stage → uses_first_alone (used_from rest) ≡ true
+replaces : (stage : Stage) (ranges : List ValueRange) (widths : List ℕ) (rest : List Op) → length widths ≡ 4
+    → sum widths ≡ bits_at stage → uses_first_alone (used_from rest) ≡ true
     → Replaces stage ranges (Unpack widths ∷ Pack widths ∷ []) None rest
 replaces stage ranges widths rest size fills alone = record {
   inner = refl;

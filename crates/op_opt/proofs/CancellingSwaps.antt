@@ -32,7 +32,8 @@ two_bytes : (n : ℕ) → n < 65536 → reversed_bytes 2 (reversed_bytes 2 n) �
 two_bytes n h = omega arith
 
 -- four bytes from the least, and back
-four_bytes_of : (a b c d : ℕ) → a < 256 → b < 256 → c < 256 → d < 256 → reversed_bytes 4 (a + 256 * (b + 256 * (c + 256 * d))) ≡ d + 256 * (c + 256 * (b + 256 * a))
+four_bytes_of : (a b c d : ℕ) → a < 256 → b < 256 → c < 256 → d < 256
+    → reversed_bytes 4 (a + 256 * (b + 256 * (c + 256 * d))) ≡ d + 256 * (c + 256 * (b + 256 * a))
 four_bytes_of a b c d p q r s = omega arith
 
 four_bytes : (n : ℕ) → n < 4294967296 → reversed_bytes 4 (reversed_bytes 4 n) ≡ n
@@ -40,10 +41,12 @@ four_bytes n h =
     let a = n % 256 in let b = n / 256 % 256 in let c = n / 256 / 256 % 256 in let d = n / 256 / 256 / 256 in
     let is : n ≡ a + 256 * (b + 256 * (c + 256 * d)) = omega arith in
     let small : d < 256 = omega arith in
-    let once : reversed_bytes 4 n ≡ d + 256 * (c + 256 * (b + 256 * a)) = ap (reversed_bytes 4) is ∙ four_bytes_of a b c d (omega arith) (omega arith) (omega arith) small in
+    let once : reversed_bytes 4 n ≡ d + 256 * (c + 256 * (b + 256 * a)) = ap (reversed_bytes 4) is
+    ∙ four_bytes_of a b c d (omega arith) (omega arith) (omega arith) small in
     ap (reversed_bytes 4) once ∙ four_bytes_of d c b a small (omega arith) (omega arith) (omega arith) ∙ sym is
 
-twice : (stage : Stage) (n : ℕ) → is_wide stage ≡ true → n < 2 ^ bits_at stage → reversed_bytes (bits_at stage / 8) (reversed_bytes (bits_at stage / 8) n) ≡ n
+twice : (stage : Stage) (n : ℕ) → is_wide stage ≡ true → n < 2 ^ bits_at stage → reversed_bytes (bits_at stage / 8) (reversed_bytes
+    (bits_at stage / 8) n) ≡ n
 twice (Typed U16) n wide h = two_bytes n h
 twice (Typed U32) n wide h = four_bytes n h
 twice (Typed U8) n wide h = absurd (cc)
@@ -54,7 +57,8 @@ twice Ended n wide h = absurd (cc)
 swapped : Stage → Values → Values
 swapped stage v = Numbers (four (λ i. reversed_bytes (bits_at stage / 8) (number v i)))
 
-agrees : (stage : Stage) (used : List Bool) (v : Values) → is_wide stage ≡ true → are_fractions v ≡ false → AreSmall stage v → Agree used v (swapped stage (swapped stage v))
+agrees : (stage : Stage) (used : List Bool) (v : Values) → is_wide stage ≡ true → are_fractions v ≡ false → AreSmall stage v
+    → Agree used v (swapped stage (swapped stage v))
 unfolding swapped
 agrees stage used v wide kind small =
     let once = λ (i : ℕ). reversed_bytes (bits_at stage / 8) (number v i) in
@@ -87,7 +91,8 @@ whole_kind (Typed Rat) h = absurd (cc)
 whole_kind Start h = refl
 whole_kind Ended h = refl
 
-runs : (frame : List ℕ) (position : PixelPosition) (stage : Stage) (used : List Bool) (v : Values) → Agree used v (swapped stage (swapped stage v))
+runs : (frame : List ℕ) (position : PixelPosition) (stage : Stage) (used : List Bool) (v : Values)
+    → Agree used v (swapped stage (swapped stage v))
     → Agree used (run_from frame position stage [] v) (run_from frame position stage (SwapBytes ∷ SwapBytes ∷ []) v)
 unfolding run_from apply stage_after swapped
 runs frame position stage used v h = h
@@ -99,7 +104,8 @@ replaces stage ranges rest = record {
   typed = λ h. (typed_none stage, stays stage);
   same = λ frame position v at.
       (let wide = wide_at stage (SwapBytes ∷ rest) at.typed in
-      same_by_agreement frame position stage (SwapBytes ∷ SwapBytes ∷ []) rest None v at.typed (last_behind SwapBytes rest refl (last_behind SwapBytes (SwapBytes ∷ rest) refl at.last)) (stays stage)
+      same_by_agreement frame position stage (SwapBytes ∷ SwapBytes ∷ []) rest None v at.typed (last_behind SwapBytes rest refl
+      (last_behind SwapBytes (SwapBytes ∷ rest) refl at.last)) (stays stage)
       (runs frame position stage (used_from rest) v (agrees stage (used_from rest) v wide (at.kind ∙ whole_kind stage wide) at.small)));
 }
 

@@ -1,9 +1,11 @@
 -- Entries of which one is dropped: which one, what stays, and that there are fewer.
-use Rattle.std.proofs.Common.{◌≡◌, ℕ, zero, suc, ◌<◌, Bool, true, false, if◌then◌else◌, List, [], ◌∷◌, nat_eq, eqb-true, refl, sym, ◌∙◌, ap, arith}
+use Rattle.std.proofs.Common.{◌≡◌, ℕ, zero, suc, ◌<◌, Bool, true, false, if◌then◌else◌, List, [], ◌∷◌, nat_eq, eqb-true, refl, sym, ◌∙◌, ap}
+use Rattle.std.proofs.Common.{arith}
 use Rattle.std.specs.Prelude.{Option, Some, None}
 use Rattle.std.proofs.lemmas.Option.{same_Some, none-some}
 use Rattle.std.proofs.lemmas.Bool.{and_parts, and_from, both_ways}
 use Rattle.frac_math.specs.Fraction.{ℚ}
+use Rattle.op_list.proofs.GivenEntries.{fits_at}
 use Rattle.op_list.specs.Typing.{entry_fits, all_fit}
 use Rattle.op_list.specs.Values.{entry}
 use Rattle.op_list.proofs.Four.{get_or-four}
@@ -31,38 +33,38 @@ lowest_passes test i h =
 
 -- ---- what stays
 pub other_entry : (entries : List (Option ℚ)) (i j : ℕ) → j < 4 → nat_eq j i ≡ false → entry (without entries i) j ≡ entry entries j
-other_entry entries i j below other = get_or-four (λ k. if nat_eq k i then None else entry entries k) j None below ∙ ap (λ b. if b then None else entry entries j) other
+other_entry entries i j below other = get_or-four (λ k. if nat_eq k i then None else entry entries k) j None below
+    ∙ ap (λ b. if b then None else entry entries j) other
 
 pub dropped_entry : (entries : List (Option ℚ)) (i : ℕ) → i < 4 → nat_eq i i ≡ true → entry (without entries i) i ≡ None
-dropped_entry entries i below this = get_or-four (λ k. if nat_eq k i then None else entry entries k) i None below ∙ ap (λ b. if b then None else entry entries i) this
+dropped_entry entries i below this = get_or-four (λ k. if nat_eq k i then None else entry entries k) i None below
+    ∙ ap (λ b. if b then None else entry entries i) this
 
 -- what holds of value j holds of entry j after the drop: by whether j is the value
 pub by_place : {P : Type 0} (j i : ℕ) → (j ≡ i → P) → (nat_eq j i ≡ false → P) → P
-by_place {P = P} j i this other = (elim (nat_eq j i) as (λ b. nat_eq j i ≡ b → P) [ true ↦ λ e. this (eqb-true j i e) | false ↦ λ e. other e ]) refl
+by_place {P = P} j i this other = (elim (nat_eq j i) as (λ b. nat_eq j i ≡ b → P) [ true ↦ λ e. this (eqb-true j i e)
+    | false ↦ λ e. other e ]) refl
 
 pub one_unused : (used : ℕ → Bool) (j i : ℕ) → used j ≡ true → used i ≡ false → j ≡ i → ⊥
 one_unused used j i t f e = both_ways (used i) f (sym (ap used e) ∙ t)
 
 -- ---- the arguments are good
-fits_at : (bits : ℕ) (entries : List (Option ℚ)) (j : ℕ) → all_fit bits entries ≡ true → entry_fits bits (entry entries j) ≡ true
-fits_at bits [] j h = refl
-fits_at bits (e ∷ entries) zero h = (and_parts (entry_fits bits e) (all_fit bits entries) h).0
-fits_at bits (e ∷ entries) (suc j) h = fits_at bits entries j (and_parts (entry_fits bits e) (all_fit bits entries) h).1
-
 fits_unless : (bits : ℕ) (b : Bool) (e : Option ℚ) → entry_fits bits e ≡ true → entry_fits bits (if b then None else e) ≡ true
 fits_unless bits true e h = refl
 fits_unless bits false e h = h
 
 pub without_fits : (bits i : ℕ) (entries : List (Option ℚ)) → all_fit bits entries ≡ true → all_fit bits (without entries i) ≡ true
 without_fits bits i entries h =
-    let each : (j : ℕ) → entry_fits bits (if nat_eq j i then None else entry entries j) ≡ true = λ j. fits_unless bits (nat_eq j i) (entry entries j) (fits_at bits entries j h) in
+    let each : (j : ℕ) → entry_fits bits (if nat_eq j i then None else entry entries j) ≡ true = λ j. fits_unless bits (nat_eq j i)
+    (entry entries j) (fits_at bits entries j h) in
     and_from _ _ (each 0) (and_from _ _ (each 1) (and_from _ _ (each 2) (and_from _ true (each 3) refl)))
 
 -- ---- there are fewer
 one : (e : Option ℚ) → is_given e ≡ true → ◌≡◌ {A = ℕ} (if is_given e then 1 else 0) 1
 one e h = ap (λ (b : Bool). let n : ℕ = if b then 1 else 0 in n) h
 
-pub fewer_entries : (entries : List (Option ℚ)) (i : ℕ) → i < 4 → is_given (entry entries i) ≡ true → entries_of (without entries i) < entries_of entries
+pub fewer_entries : (entries : List (Option ℚ)) (i : ℕ) → i < 4 → is_given (entry entries i) ≡ true
+    → entries_of (without entries i) < entries_of entries
 fewer_entries entries zero below h = omega (arith, one (entry entries 0) h)
 fewer_entries entries (suc zero) below h = omega (arith, one (entry entries 1) h)
 fewer_entries entries (suc (suc zero)) below h = omega (arith, one (entry entries 2) h)

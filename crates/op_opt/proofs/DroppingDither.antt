@@ -41,13 +41,15 @@ dithered_floor k x y z h =
     ap floor is ∙ floor_whole z.numerator ∙ sym (dither_floor k x y z.numerator) ∙ sym (ap (λ u. floor (u +ℚ dither_at k x y)) is)
 
 same_floors : (ranges : List ValueRange) (used : List Bool) (k x y : ℕ) (v : Values) → are_fractions v ≡ true → AreWithin ranges v
-    → all_of_four (λ i. not (is_used used i) || (range_in ranges i).whole) ≡ true → SameFloors used v (Fractions (four (λ i. fraction v i +ℚ dither_at k x y)))
+    → all_of_four (λ i. not (is_used used i) || (range_in ranges i).whole) ≡ true → SameFloors used v (Fractions (four
+    (λ i. fraction v i +ℚ dither_at k x y)))
 same_floors ranges used k x y v kind within test = record {
   first = kind;
   second = refl;
   floors = λ i below u.
       dithered_floor k x y (fraction v i)
-      ((fraction_at ranges v i kind below within).integral (if_used (is_used used i) _ (all_at (λ j. not (is_used used j) || (range_in ranges j).whole) i below test) u))
+      ((fraction_at ranges v i kind below within).integral (if_used (is_used used i) _ (all_at (λ j. not (is_used used j) ||
+      (range_in ranges j).whole) i below test) u))
       ∙ sym (ap floor (get_or-four (λ j. fraction v j +ℚ dither_at k x y) i (nat 0) below));
 }
 
@@ -55,7 +57,8 @@ lighter : (k : ℕ) → weight [] < weight (Dither k ∷ [])
 unfolding weight weight_of
 lighter k = omega arith
 
-typed : (stage : Stage) (k : ℕ) → are_typed stage (Dither k ∷ []) ≡ true → (are_typed stage [] ≡ true) × (stage_from stage [] ≡ stage_from stage (Dither k ∷ []))
+typed : (stage : Stage) (k : ℕ) → are_typed stage (Dither k ∷ []) ≡ true
+    → (are_typed stage [] ≡ true) × (stage_from stage [] ≡ stage_from stage (Dither k ∷ []))
 unfolding are_typed stage_from stage_after
 typed stage k h = (refl, refl)
 
@@ -68,11 +71,13 @@ unfolding stage_after
 rest_typed stage k rest h = (typed_parts stage (Dither k) rest h).2
 
 run_dither : (frame : List ℕ) (position : PixelPosition) (stage : Stage) (k : ℕ) (rest : List Op) (v : Values)
-    → run_from frame position stage rest (Fractions (four (λ i. fraction v i +ℚ dither_at k position.x position.y))) ≡ run_from frame position stage (Dither k ∷ rest) v
+    → run_from frame position stage rest (Fractions (four
+    (λ i. fraction v i +ℚ dither_at k position.x position.y))) ≡ run_from frame position stage (Dither k ∷ rest) v
 unfolding run_from apply stage_after
 run_dither frame position stage k rest v = refl
 
-replaces : (stage : Stage) (ranges : List ValueRange) (k : ℕ) (rest : List Op) → all_of_four (λ i. not (is_used (used_from rest) i) || (range_in ranges i).whole) ≡ true → lead_to_floors rest ≡ true
+replaces : (stage : Stage) (ranges : List ValueRange) (k : ℕ) (rest : List Op) → all_of_four (λ i. not (is_used (used_from rest) i) ||
+    (range_in ranges i).whole) ≡ true → lead_to_floors rest ≡ true
     → Replaces stage ranges (Dither k ∷ []) None rest
 replaces stage ranges k rest test lead = record {
   inner = refl;

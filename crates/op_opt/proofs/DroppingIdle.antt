@@ -1,5 +1,6 @@
 -- Drop an idle operation.
-use Rattle.std.proofs.Common.{◌≡◌, ℕ, ◌*◌, ◌/◌, ◌%◌, ◌^◌, ◌<◌, Bool, true, false, not, ◌||◌, List, [], ◌∷◌, nat_eq, eqb-true, mod-eq_of_lt, subst, refl, sym, ◌∙◌, ap, arith}
+use Rattle.std.proofs.Common.{◌≡◌, ℕ, ◌*◌, ◌/◌, ◌%◌, ◌^◌, ◌<◌, Bool, true, false, not, ◌||◌, List, [], ◌∷◌, nat_eq, eqb-true, mod-eq_of_lt}
+use Rattle.std.proofs.Common.{subst, refl, sym, ◌∙◌, ap, arith}
 use Rattle.std.specs.Prelude.{Option, Some, None, slice_index}
 use Rattle.std.proofs.lemmas.Option.{same_Some, none-some}
 use Rattle.std.proofs.lemmas.Bool.{and_parts}
@@ -17,7 +18,8 @@ use Rattle.op_list.specs.declared.values.Values.TheVariants.{Numbers, Fractions}
 use Rattle.op_list.specs.Types.{bits_at, is_whole, is_rational, has_type}
 use Rattle.op_list.specs.Typing.{may_follow, stage_after, are_typed}
 use Rattle.op_list.specs.Values.{number, fraction, fraction_in, entry, are_fractions}
-use Rattle.op_list.specs.Apply.{apply, cleared, cleared_number, cleared_fraction, swizzled, as_numbers, converted, at_most, at_least, row_of, row_value}
+use Rattle.op_list.specs.Apply.{apply, cleared, cleared_number, cleared_fraction, swizzled, as_numbers, converted, at_most, at_least}
+use Rattle.op_list.specs.Apply.{row_of, row_value}
 use Rattle.op_list.specs.Identity.{is_identity_row}
 use Rattle.op_list.proofs.Applied.{whole_not_rational}
 use Rattle.op_list.proofs.Typed.{typed_parts}
@@ -69,27 +71,35 @@ cleared_kept entries used (Fractions v) h =
     (λ i below u. no_clear_fraction (entry entries i) (fraction_in v i) (all_at (λ j. is_missing (entry entries j)) i below h))
 
 -- ---- used values that stay in place
-in_place : (from : List ℕ) (used : List Bool) (i : ℕ) → i < 4 → all_of_four (λ j. not (is_used used j) || nat_eq (slice_index from j) j) ≡ true → is_used used i ≡ true
+in_place : (from : List ℕ) (used : List Bool) (i : ℕ) → i < 4 → all_of_four (λ j. not (is_used used j) || nat_eq
+    (slice_index from j) j) ≡ true → is_used used i ≡ true
     → i ≡ slice_index from i
-in_place from used i below h u = sym (eqb-true (slice_index from i) i (if_used (is_used used i) _ (all_at (λ j. not (is_used used j) || nat_eq (slice_index from j) j) i below h) u))
+in_place from used i below h u = sym (eqb-true (slice_index from i) i (if_used (is_used used i) _ (all_at
+    (λ j. not (is_used used j) || nat_eq (slice_index from j) j) i below h) u))
 
-swizzled_kept : (from : List ℕ) (used : List Bool) (v : Values) → all_of_four (λ j. not (is_used used j) || nat_eq (slice_index from j) j) ≡ true → Agree used v (swizzled from v)
+swizzled_kept : (from : List ℕ) (used : List Bool) (v : Values) → all_of_four (λ j. not (is_used used j) || nat_eq
+    (slice_index from j) j) ≡ true → Agree used v (swizzled from v)
 swizzled_kept from used (Numbers v) h =
-    agree_with_numbers used (Numbers v) (λ i. slice_index v (slice_index from i)) refl (λ i below u. ap (slice_index v) (in_place from used i below h u))
+    agree_with_numbers used (Numbers v) (λ i. slice_index v (slice_index from i)) refl (λ i below u. ap (slice_index v)
+    (in_place from used i below h u))
 swizzled_kept from used (Fractions v) h =
-    agree_with_fractions used (Fractions v) (λ i. fraction_in v (slice_index from i)) refl (λ i below u. ap (fraction_in v) (in_place from used i below h u))
+    agree_with_fractions used (Fractions v) (λ i. fraction_in v (slice_index from i)) refl (λ i below u. ap (fraction_in v)
+    (in_place from used i below h u))
 
 -- ---- a Convert to the type before
-whole_kept : (count : ℕ) (used : List Bool) (v : Values) → are_fractions v ≡ false → ((i : ℕ) → i < 4 → number v i < 2 ^ count) → Agree used v (as_numbers false count v)
+whole_kept : (count : ℕ) (used : List Bool) (v : Values) → are_fractions v ≡ false → ((i : ℕ) → i < 4 → number v i < 2 ^ count)
+    → Agree used v (as_numbers false count v)
 whole_kept count used (Numbers v) kind small =
-    agree_with_numbers used (Numbers v) (λ i. slice_index v i * 1 % 2 ^ count) refl (λ i below u. kept count (slice_index v i) (small i below))
+    agree_with_numbers used (Numbers v) (λ i. slice_index v i * 1 % 2 ^ count) refl (λ i below u. kept count (slice_index v i)
+    (small i below))
 whole_kept count used (Fractions v) kind small = absurd (cc)
 
 rational_kept : (used : List Bool) (v : Values) → are_fractions v ≡ true → Agree used v (converted Rat false v)
 rational_kept used (Fractions v) kind = agree_self used (Fractions v)
 rational_kept used (Numbers v) kind = absurd (cc)
 
-converted_kept : (to : PixType) (stage : Stage) (used : List Bool) (v : Values) → has_type to stage ≡ true → are_fractions v ≡ is_rational stage → AreSmall stage v
+converted_kept : (to : PixType) (stage : Stage) (used : List Bool) (v : Values) → has_type to stage ≡ true
+    → are_fractions v ≡ is_rational stage → AreSmall stage v
     → Agree used v (converted to false v)
 converted_kept U8 (Typed U8) used v is kind small = whole_kept 8 used v kind small.each
 converted_kept U16 (Typed U16) used v is kind small = whole_kept 16 used v kind small.each
@@ -105,25 +115,30 @@ same_stage Rat (Typed Rat) is = refl
 same_stage _ _ is = absurd (cc)
 
 -- ---- each operation
-whole_here : (stage : Stage) (op : Op) (rest : List Op) (v : Values) → are_typed stage (op ∷ rest) ≡ true → may_follow stage op ≡ is_whole stage
+whole_here : (stage : Stage) (op : Op) (rest : List Op) (v : Values) → are_typed stage (op ∷ rest) ≡ true
+    → may_follow stage op ≡ is_whole stage
     → are_fractions v ≡ is_rational stage → are_fractions v ≡ false
 whole_here stage op rest v typed follows kind = kind ∙ whole_not_rational stage (sym follows ∙ (typed_parts stage op rest typed).0)
 
-rational_here : (stage : Stage) (op : Op) (rest : List Op) (v : Values) → are_typed stage (op ∷ rest) ≡ true → may_follow stage op ≡ is_rational stage
+rational_here : (stage : Stage) (op : Op) (rest : List Op) (v : Values) → are_typed stage (op ∷ rest) ≡ true
+    → may_follow stage op ≡ is_rational stage
     → are_fractions v ≡ is_rational stage → are_fractions v ≡ true
 rational_here stage op rest v typed follows kind = kind ∙ sym follows ∙ (typed_parts stage op rest typed).0
 
-idle_dropped : (stage : Stage) (ranges : List ValueRange) (op : Op) (rest : List Op) → is_idle stage (used_from rest) op ≡ true → Replaces stage ranges (op ∷ []) None rest
+idle_dropped : (stage : Stage) (ranges : List ValueRange) (op : Op) (rest : List Op) → is_idle stage (used_from rest) op ≡ true
+    → Replaces stage ranges (op ∷ []) None rest
 unfolding is_idle apply stage_after may_follow
 idle_dropped stage ranges (Clear entries) rest h =
     dropped stage ranges (Clear entries) rest refl refl (λ frame position v at. cleared_kept entries (used_from rest) v h)
 idle_dropped stage ranges (LeftShift n) rest h =
     dropped stage ranges (LeftShift n) rest refl refl
-    (λ frame position v at. agree_with_numbers (used_from rest) v (λ i. number v i * 2 ^ n % 2 ^ bits_at stage) (whole_here stage (LeftShift n) rest v at.typed refl at.kind)
+    (λ frame position v at. agree_with_numbers (used_from rest) v (λ i. number v i * 2 ^ n % 2 ^ bits_at stage) (whole_here stage
+    (LeftShift n) rest v at.typed refl at.kind)
     (λ i below u. left_kept (bits_at stage) (number v i) n h (at.small.each i below)))
 idle_dropped stage ranges (RightShift n) rest h =
     dropped stage ranges (RightShift n) rest refl refl
-    (λ frame position v at. agree_with_numbers (used_from rest) v (λ i. number v i / 2 ^ n) (whole_here stage (RightShift n) rest v at.typed refl at.kind)
+    (λ frame position v at. agree_with_numbers (used_from rest) v (λ i. number v i / 2 ^ n) (whole_here stage
+    (RightShift n) rest v at.typed refl at.kind)
     (λ i below u. right_kept (number v i) n h))
 idle_dropped stage ranges (Swizzle from) rest h =
     dropped stage ranges (Swizzle from) rest refl refl (λ frame position v at. swizzled_kept from (used_from rest) v h)
@@ -134,20 +149,25 @@ idle_dropped stage ranges (Convert to false) rest h =
     (λ frame position v at. converted_kept to stage (used_from rest) v is at.kind at.small)
 idle_dropped stage ranges (Linear rows) rest h =
     dropped stage ranges (Linear rows) rest refl refl
-    (λ frame position v at. agree_with_fractions (used_from rest) v (λ i. row_value (row_of rows i) v) (rational_here stage (Linear rows) rest v at.typed refl at.kind)
+    (λ frame position v at. agree_with_fractions (used_from rest) v (λ i. row_value (row_of rows i) v) (rational_here stage
+    (Linear rows) rest v at.typed refl at.kind)
     (λ i below u. identity_value (row_of rows i) i v below
-    (if_used (is_used (used_from rest) i) _ (all_at (λ j. not (is_used (used_from rest) j) || is_identity_row j (row_of rows j)) i below h) u)))
+    (if_used (is_used (used_from rest) i) _ (all_at (λ j. not (is_used (used_from rest) j) || is_identity_row j
+    (row_of rows j)) i below h) u)))
 idle_dropped stage ranges (Scale by) rest h =
     dropped stage ranges (Scale by) rest refl refl
-    (λ frame position v at. agree_with_fractions (used_from rest) v (λ i. fraction v i *ℚ by) (rational_here stage (Scale by) rest v at.typed refl at.kind)
+    (λ frame position v at. agree_with_fractions (used_from rest) v (λ i. fraction v i *ℚ by) (rational_here stage
+    (Scale by) rest v at.typed refl at.kind)
     (λ i below u. sym (ap (λ c. fraction v i *ℚ c) (equal_is by (nat 1) h) ∙ mul-one (fraction v i))))
 idle_dropped stage ranges (Min limits) rest h =
     dropped stage ranges (Min limits) rest refl refl
-    (λ frame position v at. agree_with_fractions (used_from rest) v (λ i. at_most (entry limits i) (fraction v i)) (rational_here stage (Min limits) rest v at.typed refl at.kind)
+    (λ frame position v at. agree_with_fractions (used_from rest) v (λ i. at_most (entry limits i) (fraction v i)) (rational_here stage
+    (Min limits) rest v at.typed refl at.kind)
     (λ i below u. no_min (entry limits i) (fraction v i) (all_at (λ j. is_missing (entry limits j)) i below h)))
 idle_dropped stage ranges (Max limits) rest h =
     dropped stage ranges (Max limits) rest refl refl
-    (λ frame position v at. agree_with_fractions (used_from rest) v (λ i. at_least (entry limits i) (fraction v i)) (rational_here stage (Max limits) rest v at.typed refl at.kind)
+    (λ frame position v at. agree_with_fractions (used_from rest) v (λ i. at_least (entry limits i) (fraction v i)) (rational_here stage
+    (Max limits) rest v at.typed refl at.kind)
     (λ i below u. no_max (entry limits i) (fraction v i) (all_at (λ j. is_missing (entry limits j)) i below h)))
 idle_dropped stage ranges _ rest h = absurd (cc)
 

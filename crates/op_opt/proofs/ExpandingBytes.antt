@@ -1,5 +1,6 @@
 -- Expand bytes by a conversion.
-use Rattle.std.proofs.Common.{◌≡◌, ℕ, ◌*◌, ◌%◌, ◌^◌, ◌<◌, Bool, true, false, not, ◌&&◌, ◌||◌, List, [], ◌∷◌, pos, subst, refl, sym, ◌∙◌, ap, arith}
+use Rattle.std.proofs.Common.{◌≡◌, ℕ, ◌*◌, ◌%◌, ◌^◌, ◌<◌, Bool, true, false, not, ◌&&◌, ◌||◌, List, [], ◌∷◌, pos, subst, refl, sym, ◌∙◌, ap}
+use Rattle.std.proofs.Common.{arith}
 use Rattle.std.specs.Prelude.{Some, slice_index}
 use Rattle.std.proofs.lemmas.Option.{same_Some, none-some}
 use Rattle.std.proofs.lemmas.Bool.{and_parts, and_from}
@@ -38,7 +39,8 @@ record Expands (used : List Bool) (op : Op) : Type 0 where
   inner : is_write op ≡ false
   leaves : (stage : Stage) → stage_after stage op ≡ stage
   made : List ℚ → ℕ → ℚ
-  applies : (frame : List ℕ) (position : PixelPosition) (stage : Stage) (xs : List ℚ) → apply frame position stage op (Fractions xs) ≡ Fractions (four (made xs))
+  applies : (frame : List ℕ) (position : PixelPosition) (stage : Stage) (xs : List ℚ)
+      → apply frame position stage op (Fractions xs) ≡ Fractions (four (made xs))
   expands : (xs : List ℚ) (i : ℕ) → i < 4 → is_used used i ≡ true → made xs i ≡ fraction_in xs i *ℚ nat 257
 
 scale_expands : (used : List Bool) (factor : ℚ) → equal_ℚ factor (nat 257) ≡ true → Expands used (Scale factor)
@@ -68,19 +70,23 @@ expanded : (n : ℕ) (x : ℚ) → x ≡ nat n *ℚ nat 257 → n * 257 % 2 ^ 16
 expanded n x is =
     sym (ap (λ z. modulo z (2 ^ 16)) (ap floor (is ∙ sym (whole-mul (pos n) (pos 257))) ∙ floor_whole (pos (n * 257))))
 
-agrees : (used : List Bool) (op : Op) (first last : Bool) (frame : List ℕ) (position : PixelPosition) (v : Values) → Expands used op → are_fractions v ≡ false
+agrees : (used : List Bool) (op : Op) (first last : Bool) (frame : List ℕ) (position : PixelPosition) (v : Values) → Expands used op
+    → are_fractions v ≡ false
     → Agree used (converted U16 true v) (converted U16 last (apply frame position (Typed Rat) op (converted Rat first v)))
 agrees used op first last frame position (Fractions v) e kind = absurd (cc)
 agrees used op first last frame position (Numbers v) e kind =
     let xs = four (λ i. nat (slice_index v i)) in
-    subst (λ (w : Values). Agree used (converted U16 true (Numbers v)) (converted U16 last w)) (sym (e.applies frame position (Typed Rat) xs))
+    subst (λ (w : Values). Agree used (converted U16 true (Numbers v)) (converted U16 last w)) (sym (e.applies frame position
+    (Typed Rat) xs))
     (agree_numbers used (λ i. slice_index v i * 257 % 2 ^ 16) (λ i. modulo (floor (fraction_in (four (e.made xs)) i)) (2 ^ 16))
     (λ i below u. expanded (slice_index v i) (fraction_in (four (e.made xs)) i)
-    (get_or-four (e.made xs) i (nat 0) below ∙ e.expands xs i below u ∙ ap (λ x. x *ℚ nat 257) (get_or-four (λ j. nat (slice_index v j)) i (nat 0) below))))
+    (get_or-four (e.made xs) i (nat 0) below ∙ e.expands xs i below u ∙ ap (λ x. x *ℚ nat 257) (get_or-four
+    (λ j. nat (slice_index v j)) i (nat 0) below))))
 
 runs_both : (used : List Bool) (op : Op) (first last : Bool) (frame : List ℕ) (position : PixelPosition) (v : Values)
     → Agree used (converted U16 true v) (converted U16 last (apply frame position (Typed Rat) op (converted Rat first v)))
-    → Agree used (run_from frame position (Typed U8) (Convert U16 true ∷ []) v) (run_from frame position (Typed U8) (Convert Rat first ∷ op ∷ Convert U16 last ∷ []) v)
+    → Agree used (run_from frame position (Typed U8) (Convert U16 true ∷ []) v) (run_from frame position (Typed U8) (Convert Rat first
+    ∷ op ∷ Convert U16 last ∷ []) v)
 unfolding run_from apply stage_after
 runs_both used op first last frame position v h = h
 
@@ -93,7 +99,8 @@ one_typed : are_typed (Typed U8) (Convert U16 true ∷ []) ≡ true
 unfolding are_typed may_follow are_good
 one_typed = refl
 
-same_type : (op : Op) (first last : Bool) → stage_from (Typed U8) (Convert U16 true ∷ []) ≡ stage_from (Typed U8) (Convert Rat first ∷ op ∷ Convert U16 last ∷ [])
+same_type : (op : Op) (first last : Bool) → stage_from (Typed U8) (Convert U16 true ∷ []) ≡ stage_from (Typed U8) (Convert Rat first
+    ∷ op ∷ Convert U16 last ∷ [])
 unfolding stage_from stage_after
 same_type op first last = refl
 
@@ -105,12 +112,15 @@ replaces ranges op first last rest e = record {
   typed = λ h. (one_typed, same_type op first last);
   same = λ frame position v at.
       same_by_agreement frame position (Typed U8) (Convert Rat first ∷ op ∷ Convert U16 last ∷ []) rest (Some (Convert U16 true)) v at.typed
-      (last_behind (Convert U16 last) rest refl (last_behind op (Convert U16 last ∷ rest) e.inner (last_behind (Convert Rat first) (op ∷ Convert U16 last ∷ rest) refl at.last)))
-      (same_type op first last) (runs_both (used_from rest) op first last frame position v (agrees (used_from rest) op first last frame position v e at.kind));
+      (last_behind (Convert U16 last) rest refl (last_behind op (Convert U16 last ∷ rest) e.inner (last_behind (Convert Rat first)
+      (op ∷ Convert U16 last ∷ rest) refl at.last)))
+      (same_type op first last) (runs_both (used_from rest) op first last frame position v (agrees
+      (used_from rest) op first last frame position v e at.kind));
 }
 
 -- the types are those of the pass
-at_types : (stage : Stage) (ranges : List ValueRange) (by to : PixType) (op : Op) (first last : Bool) (rest : List Op) → goes_through_fractions stage by to ≡ true
+at_types : (stage : Stage) (ranges : List ValueRange) (by to : PixType) (op : Op) (first last : Bool) (rest : List Op)
+    → goes_through_fractions stage by to ≡ true
     → Expands (used_from rest) op → Replaces stage ranges (Convert by first ∷ op ∷ Convert to last ∷ []) (Some (Convert U16 true)) rest
 at_types stage ranges by to op first last rest through e =
     let p = and_parts (has_type U8 stage && is_same by Rat) (is_same to U16) through in
@@ -123,11 +133,13 @@ at_types stage ranges by to op first last rest through e =
     typed_so _ _ _ x y z = absurd (cc)
 
 replacement : (stage : Stage) (ranges : List ValueRange) (by to : PixType) (op : Op) (first last : Bool) (rest : List Op) (change : Change)
-    → goes_through_fractions stage by to ≡ true → Expands (used_from rest) op → Some (record { taken = 3; given = Some (Convert U16 true) }) ≡ Some change
+    → goes_through_fractions stage by to ≡ true → Expands (used_from rest) op
+    → Some (record { taken = 3; given = Some (Convert U16 true) }) ≡ Some change
     → Replacement stage ranges (Convert by first ∷ op ∷ Convert to last ∷ rest) change
 replacement stage ranges by to op first last rest change through e is =
     subst (λ (c : Change). Replacement stage ranges (Convert by first ∷ op ∷ Convert to last ∷ rest) c) (same_Some _ change is)
-    (record { old = Convert by first ∷ op ∷ Convert to last ∷ []; rest = rest; split = refl; behind = refl; replaces = at_types stage ranges by to op first last rest through e })
+    (record { old = Convert by first ∷ op ∷ Convert to last ∷ []; rest = rest; split = refl; behind = refl; replaces =
+    at_types stage ranges by to op first last rest through e })
 
 pub expand_bytes_sound : IsSound (λ stage ranges ops. expand_bytes stage ops)
 unfolding expand_bytes

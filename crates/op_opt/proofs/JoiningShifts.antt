@@ -1,5 +1,6 @@
 -- Join two shifts.
-use Rattle.std.proofs.Common.{◌≡◌, ℕ, ◌+◌, ◌-◌, ◌*◌, ◌/◌, ◌%◌, ◌^◌, ◌<◌, ◌≤◌, Bool, true, false, not, ◌||◌, if◌then◌else◌, List, [], ◌∷◌, lt-ltb, ltb-true, leb-true, pow_pos, mod-eq_of_lt, subst, refl, sym, ◌∙◌, ap, arith}
+use Rattle.std.proofs.Common.{◌≡◌, ℕ, ◌+◌, ◌-◌, ◌*◌, ◌/◌, ◌%◌, ◌^◌, ◌<◌, ◌≤◌, Bool, true, false, not, ◌||◌, if◌then◌else◌, List, [], ◌∷◌}
+use Rattle.std.proofs.Common.{lt-ltb, ltb-true, leb-true, pow_pos, mod-eq_of_lt, subst, refl, sym, ◌∙◌, ap, arith}
 use Rattle.std.specs.Prelude.{Option, Some, None, IfSome, nat_lt, nat_le}
 use Rattle.std.proofs.lemmas.Option.{same_Some, none-some, option_and_then_some}
 use Rattle.std.proofs.lemmas.Bool.{and_from, both_ways}
@@ -56,7 +57,8 @@ shifted_below n a count below small =
 back_to_left : (n a b count : ℕ) → b ≤ a → n * 2 ^ a < 2 ^ count → n * 2 ^ (a - b) % 2 ^ count ≡ n * 2 ^ a % 2 ^ count / 2 ^ b
 back_to_left n a b count order small =
     let sum : a - b + b ≡ a = omega arith in
-    let parts : n * 2 ^ (a - b) * 2 ^ b ≡ n * 2 ^ a = mul_assoc n (2 ^ (a - b)) (2 ^ b) ∙ ap (λ p. n * p) (sym (pow-add 2 (a - b) b) ∙ ap (λ k. 2 ^ k) sum) in
+    let parts : n * 2 ^ (a - b) * 2 ^ b ≡ n * 2 ^ a = mul_assoc n (2 ^ (a - b)) (2 ^ b) ∙ ap (λ p. n * p) (sym (pow-add 2 (a - b) b)
+    ∙ ap (λ k. 2 ^ k) sum) in
     let two : 0 < 2 = omega arith in
     let less : n * 2 ^ (a - b) ≤ n * 2 ^ a = mul-le-mul_left n (pow-le-pow_right two (omega arith)) in
     mod-eq_of_lt (omega (arith, less, small)) ∙ sym (shl-shr (n * 2 ^ (a - b)) b) ∙ ap (λ p. p / 2 ^ b) (parts ∙ sym (mod-eq_of_lt small))
@@ -64,31 +66,37 @@ back_to_left n a b count order small =
 back_to_right : (n a b count : ℕ) → a < b → n * 2 ^ a < 2 ^ count → n / 2 ^ (b - a) ≡ n * 2 ^ a % 2 ^ count / 2 ^ b
 back_to_right n a b count order small =
     let sum : a + (b - a) ≡ b = omega arith in
-    ap (λ p. p / 2 ^ (b - a)) (sym (shl-shr n a)) ∙ shr-shr (n * 2 ^ a) a (b - a) ∙ ap (λ k. n * 2 ^ a / 2 ^ k) sum ∙ ap (λ p. p / 2 ^ b) (sym (mod-eq_of_lt small))
+    ap (λ p. p / 2 ^ (b - a)) (sym (shl-shr n a)) ∙ shr-shr (n * 2 ^ a) a (b - a) ∙ ap (λ k. n * 2 ^ a / 2 ^ k) sum
+    ∙ ap (λ p. p / 2 ^ b) (sym (mod-eq_of_lt small))
 
 -- ---- a bound with room
 is_most : (x y : ℚ) → x ≤ℚ y → true ≡ is_at_most x y
 is_most x y h = at_most_not_above x y (λ e. lt_not_le_ℚ y x (rw e at (order_is x y)) h)
 
 not_below_lt : (m n : ℕ) → (m ≤ n → ⊥) → n < m
-not_below_lt m n h = (elim (nat_le m n) as (λ t. nat_le m n ≡ t → n < m) [ true ↦ λ t. absurd (h (leb-true m n t)) | false ↦ λ t. grind (arith, t) ]) refl
+not_below_lt m n h = (elim (nat_le m n) as (λ t. nat_le m n ≡ t → n < m) [ true ↦ λ t. absurd (h (leb-true m n t))
+    | false ↦ λ t. grind (arith, t) ]) refl
 
-room_below : (n a count : ℕ) (greatest : Option ℚ) → has_room count a greatest ≡ true → IfSome greatest (λ most. nat n ≤ℚ most) → n < 2 ^ (count - a)
+room_below : (n a count : ℕ) (greatest : Option ℚ) → has_room count a greatest ≡ true → IfSome greatest (λ most. nat n ≤ℚ most)
+    → n < 2 ^ (count - a)
 room_below n a count None room below = absurd (cc)
 room_below n a count (Some most) room below =
     not_below_lt (2 ^ (count - a)) n
     (λ above. both_ways (is_at_most (nat (2 ^ (count - a))) most) (from_not _ room)
-    (sym (is_most (nat (2 ^ (count - a))) most (le_trans_ℚ (nat (2 ^ (count - a))) (nat n) most (nat_le_ℚ (2 ^ (count - a)) n above) below))))
+    (sym (is_most (nat (2 ^ (count - a))) most (le_trans_ℚ (nat (2 ^ (count - a))) (nat n) most (nat_le_ℚ (2 ^
+    (count - a)) n above) below))))
 
 -- ---- what two shifts make of a value
-first_whole : (stage : Stage) (op : Op) (rest : List Op) → are_typed stage (op ∷ rest) ≡ true → may_follow stage op ≡ is_whole stage → is_rational stage ≡ false
+first_whole : (stage : Stage) (op : Op) (rest : List Op) → are_typed stage (op ∷ rest) ≡ true → may_follow stage op ≡ is_whole stage
+    → is_rational stage ≡ false
 first_whole stage op rest typed follows = whole_not_rational stage (sym follows ∙ (typed_parts stage op rest typed).0)
 
 abbrev shifted : (ℕ → ℕ) → Values → Values
 shifted f v = Numbers (four (λ i. f (number v i)))
 
 -- shifts one after the other, in the used values
-twice_agrees : (used : List Bool) (f g h : ℕ → ℕ) (v : Values) → ((i : ℕ) → i < 4 → is_used used i ≡ true → h (number v i) ≡ g (f (number v i)))
+twice_agrees : (used : List Bool) (f g h : ℕ → ℕ) (v : Values) → ((i : ℕ) → i < 4 → is_used used i ≡ true
+    → h (number v i) ≡ g (f (number v i)))
     → Agree used (shifted h v) (shifted g (shifted f v))
 twice_agrees used f g h v same =
     agree_numbers used (λ i. h (number v i)) (λ i. g (number (shifted f v) i))
@@ -96,7 +104,8 @@ twice_agrees used f g h v same =
 
 -- an operation that is a shift: what it makes of a number of so many bits
 record IsShift (op : Op) (f : ℕ → ℕ → ℕ) : Type 0 where
-  applies : (frame : List ℕ) (position : PixelPosition) (stage : Stage) (v : Values) → apply frame position stage op v ≡ shifted (f (bits_at stage)) v
+  applies : (frame : List ℕ) (position : PixelPosition) (stage : Stage) (v : Values)
+      → apply frame position stage op v ≡ shifted (f (bits_at stage)) v
   inner : is_write op ≡ false
   weighs : weight_of op ≡ 64
   follows : (stage : Stage) → may_follow stage op ≡ is_whole stage
@@ -104,11 +113,13 @@ record IsShift (op : Op) (f : ℕ → ℕ → ℕ) : Type 0 where
 
 left_is : (n : ℕ) → IsShift (LeftShift n) (λ count x. x * 2 ^ n % 2 ^ count)
 unfolding apply weight_of may_follow stage_after
-left_is n = record { applies = λ frame position stage v. refl; inner = refl; weighs = refl; follows = λ stage. refl; leaves = λ stage. refl }
+left_is n = record { applies = λ frame position stage v. refl; inner = refl; weighs = refl; follows = λ stage. refl; leaves =
+    λ stage. refl }
 
 right_is : (n : ℕ) → IsShift (RightShift n) (λ count x. x / 2 ^ n)
 unfolding apply weight_of may_follow stage_after
-right_is n = record { applies = λ frame position stage v. refl; inner = refl; weighs = refl; follows = λ stage. refl; leaves = λ stage. refl }
+right_is n = record { applies = λ frame position stage v. refl; inner = refl; weighs = refl; follows = λ stage. refl; leaves =
+    λ stage. refl }
 
 -- ---- two shifts as one
 lighter : (a b g : Op) → weight_of a ≡ 64 → weight_of b ≡ 64 → weight_of g ≡ 64 → weight (g ∷ []) < weight (a ∷ b ∷ [])
@@ -124,7 +135,8 @@ one_leaves : (stage : Stage) (a b g : Op) → stage_after stage a ≡ stage → 
 unfolding stage_from
 one_leaves stage a b g first second joined = joined ∙ sym (ap (λ s. stage_after s b) first ∙ second)
 
-runs_one : (frame : List ℕ) (position : PixelPosition) (stage : Stage) (g : Op) (v : Values) → run_from frame position stage (g ∷ []) v ≡ apply frame position stage g v
+runs_one : (frame : List ℕ) (position : PixelPosition) (stage : Stage) (g : Op) (v : Values)
+    → run_from frame position stage (g ∷ []) v ≡ apply frame position stage g v
 unfolding run_from
 runs_one frame position stage g v = refl
 
@@ -133,7 +145,8 @@ runs_two : (frame : List ℕ) (position : PixelPosition) (stage : Stage) (a b : 
 unfolding run_from
 runs_two frame position stage a b v = refl
 
-agrees_after : (frame : List ℕ) (position : PixelPosition) (stage : Stage) (used : List Bool) (a b g : Op) (f1 f2 f : ℕ → ℕ → ℕ) (v : Values)
+agrees_after : (frame : List ℕ) (position : PixelPosition) (stage : Stage) (used : List Bool) (a b g : Op) (f1 f2 f : ℕ → ℕ
+    → ℕ) (v : Values)
     → IsShift a f1 → IsShift b f2 → IsShift g f
     → ((i : ℕ) → i < 4 → is_used used i ≡ true → f (bits_at stage) (number v i) ≡ f2 (bits_at stage) (f1 (bits_at stage) (number v i)))
     → Agree used (run_from frame position stage (g ∷ []) v) (run_from frame position stage (a ∷ b ∷ []) v)
@@ -141,12 +154,15 @@ agrees_after frame position stage used a b g f1 f2 f v sa sb sg same =
     let count = bits_at stage in
     let two : run_from frame position stage (a ∷ b ∷ []) v ≡ shifted (f2 count) (shifted (f1 count) v) =
     runs_two frame position stage a b v ∙ ap (λ s. apply frame position s b (apply frame position stage a v)) (sa.leaves stage)
-    ∙ sb.applies frame position stage (apply frame position stage a v) ∙ ap (λ w. shifted (f2 count) w) (sa.applies frame position stage v) in
+    ∙ sb.applies frame position stage (apply frame position stage a v)
+    ∙ ap (λ w. shifted (f2 count) w) (sa.applies frame position stage v) in
     subst (λ (w : Values). Agree used (run_from frame position stage (g ∷ []) v) w) (sym two)
-    (subst (λ (w : Values). Agree used w (shifted (f2 count) (shifted (f1 count) v))) (sym (runs_one frame position stage g v ∙ sg.applies frame position stage v))
+    (subst (λ (w : Values). Agree used w (shifted (f2 count) (shifted (f1 count) v))) (sym (runs_one frame position stage g v
+    ∙ sg.applies frame position stage v))
     (twice_agrees used (f1 count) (f2 count) (f count) v same))
 
-replaces : (stage : Stage) (ranges : List ValueRange) (a b g : Op) (f1 f2 f : ℕ → ℕ → ℕ) (rest : List Op) → IsShift a f1 → IsShift b f2 → IsShift g f
+replaces : (stage : Stage) (ranges : List ValueRange) (a b g : Op) (f1 f2 f : ℕ → ℕ → ℕ) (rest : List Op) → IsShift a f1 → IsShift b f2
+    → IsShift g f
     → (are_typed stage (a ∷ b ∷ []) ≡ true → are_good stage g ≡ true)
     → ((frame : List ℕ) (v : Values) → At stage ranges (a ∷ b ∷ rest) frame v → (i : ℕ) → i < 4 → is_used (used_from rest) i ≡ true
     → f (bits_at stage) (number v i) ≡ f2 (bits_at stage) (f1 (bits_at stage) (number v i)))
@@ -165,7 +181,8 @@ replaces stage ranges a b g f1 f2 f rest sa sb sg good same = record {
       (agrees_after frame position stage (used_from rest) a b g f1 f2 f v sa sb sg (same frame v at));
 }
 
-replacement : (stage : Stage) (ranges : List ValueRange) (a b g : Op) (rest : List Op) (change : Change) → Replaces stage ranges (a ∷ b ∷ []) (Some g) rest
+replacement : (stage : Stage) (ranges : List ValueRange) (a b g : Op) (rest : List Op) (change : Change)
+    → Replaces stage ranges (a ∷ b ∷ []) (Some g) rest
     → Some (record { taken = 2; given = Some g }) ≡ Some change → Replacement stage ranges (a ∷ b ∷ rest) change
 replacement stage ranges a b g rest change h is =
     subst (λ (c : Change). Replacement stage ranges (a ∷ b ∷ rest) c) (same_Some _ change is)
@@ -192,14 +209,16 @@ amount_right stage a b rest h =
     ltb-true b (bits_at stage) (typed_parts stage (RightShift b) rest (typed_parts stage (LeftShift a) (RightShift b ∷ rest) h).2).1
 
 has_bits : (stage : Stage) (ranges : List ValueRange) (a : ℕ) (ops rest : List Op) (used : List Bool) (frame : List ℕ) (v : Values)
-    → At stage ranges (LeftShift a ∷ ops) frame v → used_have_room (bits_at stage) a used ranges ≡ true → (i : ℕ) → i < 4 → is_used used i ≡ true
+    → At stage ranges (LeftShift a ∷ ops) frame v → used_have_room (bits_at stage) a used ranges ≡ true → (i : ℕ) → i < 4
+    → is_used used i ≡ true
     → number v i * 2 ^ a < 2 ^ bits_at stage
 unfolding may_follow
 has_bits stage ranges a ops rest used frame v at room i below u =
     let whole = first_whole stage (LeftShift a) ops at.typed refl in
     shifted_below (number v i) a (bits_at stage) (amount_left stage a ops at.typed)
     (room_below (number v i) a (bits_at stage) (range_in ranges i).greatest
-    (if_used (is_used used i) _ (all_at (λ j. not (is_used used j) || has_room (bits_at stage) a (range_in ranges j).greatest) i below room) u)
+    (if_used (is_used used i) _ (all_at (λ j. not (is_used used j) || has_room (bits_at stage) a
+    (range_in ranges j).greatest) i below room) u)
     (number_at ranges v i (at.kind ∙ whole) below at.within).below)
 
 between_cases : (stage : Stage) (ranges : List ValueRange) (a b : ℕ) (rest : List Op) (change : Change) (t : Bool) → nat_le b a ≡ t
@@ -211,14 +230,16 @@ between_cases stage ranges a b rest change true is room same =
     (replaces stage ranges (LeftShift a) (RightShift b) (LeftShift (a - b)) _ _ _ rest (left_is a) (right_is b) (left_is (a - b))
     (λ h. left_good stage (a - b) (lt-ltb (a - b) (bits_at stage) (omega (arith, amount_left stage a (RightShift b ∷ []) h))))
     (λ frame v at i below u.
-    back_to_left (number v i) a b (bits_at stage) (leb-true b a is) (has_bits stage ranges a (RightShift b ∷ rest) rest (used_from rest) frame v at room i below u))) same
+    back_to_left (number v i) a b (bits_at stage) (leb-true b a is) (has_bits stage ranges a (RightShift b ∷ rest) rest
+    (used_from rest) frame v at room i below u))) same
 between_cases stage ranges a b rest change false is room same =
     let less : a < b = grind (arith, is) in
     replacement stage ranges (LeftShift a) (RightShift b) (RightShift (b - a)) rest change
     (replaces stage ranges (LeftShift a) (RightShift b) (RightShift (b - a)) _ _ _ rest (left_is a) (right_is b) (right_is (b - a))
     (λ h. right_good stage (b - a) (lt-ltb (b - a) (bits_at stage) (omega (arith, amount_right stage a b [] h))))
     (λ frame v at i below u.
-    back_to_right (number v i) a b (bits_at stage) less (has_bits stage ranges a (RightShift b ∷ rest) rest (used_from rest) frame v at room i below u))) same
+    back_to_right (number v i) a b (bits_at stage) less (has_bits stage ranges a (RightShift b ∷ rest) rest
+    (used_from rest) frame v at room i below u))) same
 
 pub join_shifts_sound : IsSound (λ stage ranges ops. join_shifts stage ranges ops)
 unfolding join_shifts
@@ -229,7 +250,8 @@ join_shifts_sound stage ranges (LeftShift a ∷ LeftShift b ∷ rest) change is 
     replacement stage ranges (LeftShift a) (LeftShift b) (LeftShift n) rest change
     (replaces stage ranges (LeftShift a) (LeftShift b) (LeftShift n) _ _ _ rest (left_is a) (left_is b) (left_is n)
     (λ h. left_good stage n (ap (λ k. nat_lt k (bits_at stage)) (sym s.1) ∙ s.0))
-    (λ frame v at i below u. ap (λ k. number v i * 2 ^ k % 2 ^ bits_at stage) (sym s.1) ∙ left_twice (number v i) a b (bits_at stage))) same))
+    (λ frame v at i below u. ap (λ k. number v i * 2 ^ k % 2 ^ bits_at stage) (sym s.1)
+    ∙ left_twice (number v i) a b (bits_at stage))) same))
 join_shifts_sound stage ranges (RightShift a ∷ RightShift b ∷ rest) change is =
     option_and_then_some _ (sum_below (bits_at stage) a b) change is
     (λ n sum same.

@@ -46,8 +46,10 @@ start_small = record { each = λ i below. zero_at i }
     zero_at (suc (suc (suc zero))) = omega arith
     zero_at (suc (suc (suc (suc i)))) = omega arith
 
-start_at : (ops : List Op) (frame : List ℕ) → IsOpList ops → ends_with_write ops ≡ true → All (λ byte. byte < 256) frame → At Start start_ranges ops frame no_values
-start_at ops frame list last bytes = record { typed = list.typed; last = last; bytes = bytes; kind = refl; within = start_within; small = start_small }
+start_at : (ops : List Op) (frame : List ℕ) → IsOpList ops → ends_with_write ops ≡ true → All (λ byte. byte < 256) frame
+    → At Start start_ranges ops frame no_values
+start_at ops frame list last bytes = record { typed = list.typed; last = last; bytes = bytes; kind = refl; within = start_within; small =
+    start_small }
 
 improved : (ops after : List Op) → IsOpList ops → ends_with_write ops ≡ true → Improves Start start_ranges ops after → IsImproved ops after
 unfolding run
@@ -86,7 +88,8 @@ behind ops next after i n = record {
   same = λ frame width rows x row y bytes. n.same frame width rows x row y bytes ∙ i.same frame width rows x row y bytes;
 }
 
-steps_normal : (steps : ℕ) (ops : List Op) → weight ops ≤ steps → IsOpList ops → ends_with_write ops ≡ true → IsNormalOf ops (normal_within steps ops)
+steps_normal : (steps : ℕ) (ops : List Op) → weight ops ≤ steps → IsOpList ops → ends_with_write ops ≡ true
+    → IsNormalOf ops (normal_within steps ops)
 unfolding normal_within
 steps_normal zero ops light list last =
     (elim (step ops) as (λ s. step ops ≡ s → IsNormalOf ops ops) [
@@ -150,7 +153,8 @@ pub next_lighter : (ops next : List Op) → step ops ≡ Some next → weight ne
 next_lighter ops next is = (step_improves ops next is).lighter
 
 -- ---- by the code's next change
-pub next_of_code : (list ops again next : List Op) (edit : Edit) → ops ≡ list → again ≡ list → step ops ≡ Some (edited ops edit) → next ≡ edited again edit → step list ≡ Some next
+pub next_of_code : (list ops again next : List Op) (edit : Edit) → ops ≡ list → again ≡ list → step ops ≡ Some (edited ops edit)
+    → next ≡ edited again edit → step list ≡ Some next
 next_of_code list ops again next edit same too is made =
     ap step (sym same) ∙ is ∙ ap (λ o. Some (edited o edit)) (same ∙ sym too) ∙ ap Some (sym made)
 
@@ -164,7 +168,8 @@ next_sound ops next is list last = (step_improved ops next is list last).list
 pub normal_here : (ops : List Op) → step ops ≡ None → IsOpList ops → ends_with_write ops ≡ true → IsNormalOf ops ops
 normal_here ops is list last = settled ops is list last
 
-pub normals_behind : {E : Type 0} (ops next : List Op) (result : Result (List Op) E) → step ops ≡ Some next → IsOpList ops → ends_with_write ops ≡ true
+pub normals_behind : {E : Type 0} (ops next : List Op) (result : Result (List Op) E) → step ops ≡ Some next → IsOpList ops
+    → ends_with_write ops ≡ true
     → IfOk result (λ after. IsNormalOf next after) → IfOk result (λ after. IsNormalOf ops after)
 normals_behind ops next (Ok after) is list last n = behind ops next after (step_improved ops next is list last) n
 normals_behind ops next (Err fault) is list last n = tt

@@ -20,8 +20,10 @@ if_used true test h u = h
 if_used false test h u = absurd (cc)
 
 pub all_at : (test : ℕ → Bool) (i : ℕ) → i < 4 → all_of_four test ≡ true → test i ≡ true
-all_at test zero below h = (and_parts (test 0) (test 1) (and_parts (test 0 && test 1) (test 2) (and_parts (test 0 && test 1 && test 2) (test 3) h).0).0).0
-all_at test (suc zero) below h = (and_parts (test 0) (test 1) (and_parts (test 0 && test 1) (test 2) (and_parts (test 0 && test 1 && test 2) (test 3) h).0).0).1
+all_at test zero below h = (and_parts (test 0) (test 1) (and_parts (test 0 && test 1) (test 2) (and_parts (test 0 && test 1
+    && test 2) (test 3) h).0).0).0
+all_at test (suc zero) below h = (and_parts (test 0) (test 1) (and_parts (test 0 && test 1) (test 2) (and_parts (test 0 && test 1
+    && test 2) (test 3) h).0).0).1
 all_at test (suc (suc zero)) below h = (and_parts (test 0 && test 1) (test 2) (and_parts (test 0 && test 1 && test 2) (test 3) h).0).1
 all_at test (suc (suc (suc zero))) below h = (and_parts (test 0 && test 1 && test 2) (test 3) h).1
 all_at test (suc (suc (suc (suc i)))) below h = absurd (omega arith)

@@ -27,13 +27,15 @@ map_none f (Some x) h = absurd (none-some (f x) (sym h))
 
 -- ---- a rule
 nowhere_from : (rule : Rule) (stage : Stage) (ranges : List ValueRange) (front : List Op) (op : Op) (rest : List Op)
-    → first_place rule stage ranges (front ++ op ∷ rest) ≡ None → rule (stage_from stage front) (ranges_from stage front ranges) (op ∷ rest) ≡ None
+    → first_place rule stage ranges (front ++ op ∷ rest) ≡ None → rule (stage_from stage front) (ranges_from stage front ranges)
+    (op ∷ rest) ≡ None
 unfolding first_place stage_from ranges_from
 nowhere_from rule stage ranges [] op rest h =
     map_none (λ change. changed (op ∷ rest) change) (rule stage ranges (op ∷ rest)) (both_none _ _ h).0
 nowhere_from rule stage ranges (first ∷ front) op rest h =
     nowhere_from rule (stage_after stage first) (ranges_after stage first ranges) front op rest
-    (map_none (λ ops. first ∷ ops) (first_place rule (stage_after stage first) (ranges_after stage first ranges) (front ++ op ∷ rest)) (both_none _ _ h).1)
+    (map_none (λ ops. first ∷ ops) (first_place rule (stage_after stage first) (ranges_after stage first ranges) (front ++ op ∷ rest))
+    (both_none _ _ h).1)
 
 -- ---- every pass
 none_listed : (list : List Pass) (ops : List Op) (k : ℕ) (other : Pass) → first_of_passes list ops ≡ None → k < length list

@@ -1,5 +1,6 @@
 -- What a pass owes where it applies, and what follows for the list from there on.
-use Rattle.std.proofs.Common.{◌≡◌, ℕ, ◌+◌, ◌<◌, ◌≤◌, true, not, List, [], ◌∷◌, ◌++◌, length, drop, All, length-append, subst, refl, sym, ◌∙◌, ap, arith}
+use Rattle.std.proofs.Common.{◌≡◌, ℕ, ◌+◌, ◌<◌, ◌≤◌, true, not, List, [], ◌∷◌, ◌++◌, length, drop, All, length-append, subst, refl, sym}
+use Rattle.std.proofs.Common.{◌∙◌, ap, arith}
 use Rattle.std.specs.Prelude.{Option, Some, None}
 use Rattle.std.specs.List.{list_all}
 use Rattle.op_list.specs.declared.types.Stage.{Stage}
@@ -47,7 +48,8 @@ ops_of (Some op) = op ∷ []
 pub record Replaces (stage : Stage) (ranges : List ValueRange) (old : List Op) (given : Option Op) (rest : List Op) : Type 0 where
   pub inner : list_all (λ op. not (is_write op)) old ≡ true
   pub lighter : weight (ops_of given) < weight old
-  pub typed : are_typed stage old ≡ true → (are_typed stage (ops_of given) ≡ true) × (stage_from stage (ops_of given) ≡ stage_from stage old)
+  pub typed : are_typed stage old ≡ true → (are_typed stage (ops_of given) ≡ true) × (stage_from stage
+      (ops_of given) ≡ stage_from stage old)
   pub same : (frame : List ℕ) (position : PixelPosition) (v : Values) → At stage ranges (old ++ rest) frame v
       → run_from frame position stage (ops_of given ++ rest) v ≡ run_from frame position stage (old ++ rest) v
 
@@ -60,7 +62,8 @@ pub record Replacement (stage : Stage) (ranges : List ValueRange) (ops : List Op
 
 -- a rule that owes this wherever it applies
 abbrev pub IsSound : Rule → Type 0
-IsSound rule = (stage : Stage) (ranges : List ValueRange) (ops : List Op) (change : Change) → rule stage ranges ops ≡ Some change → Replacement stage ranges ops change
+IsSound rule = (stage : Stage) (ranges : List ValueRange) (ops : List Op) (change : Change) → rule stage ranges ops ≡ Some change
+    → Replacement stage ranges ops change
 
 -- what is known of a list after a pass, from a place on
 pub record Improves (stage : Stage) (ranges : List ValueRange) (ops after : List Op) : Type 0 where
@@ -68,7 +71,8 @@ pub record Improves (stage : Stage) (ranges : List ValueRange) (ops after : List
   pub last : ends_with_write ops ≡ true → ends_with_write after ≡ true
   pub lighter : weight after < weight ops
   pub shorter : length after ≤ length ops
-  pub same : (frame : List ℕ) (position : PixelPosition) (v : Values) → At stage ranges ops frame v → run_from frame position stage after v ≡ run_from frame position stage ops v
+  pub same : (frame : List ℕ) (position : PixelPosition) (v : Values) → At stage ranges ops frame v
+      → run_from frame position stage after v ≡ run_from frame position stage ops v
 
 -- ---- values that agree where they are used
 pub same_by_agreement : (frame : List ℕ) (position : PixelPosition) (stage : Stage) (old rest : List Op) (given : Option Op) (v : Values)
@@ -105,7 +109,8 @@ last_given None rest h = h
 last_given (Some op) rest h = last_before op rest h
 
 -- ---- at the place of the change
-improves_parts : (stage : Stage) (ranges : List ValueRange) (old rest : List Op) (given : Option Op) → Replaces stage ranges old given rest → Improves stage ranges (old ++ rest) (ops_of given ++ rest)
+improves_parts : (stage : Stage) (ranges : List ValueRange) (old rest : List Op) (given : Option Op)
+    → Replaces stage ranges old given rest → Improves stage ranges (old ++ rest) (ops_of given ++ rest)
 improves_parts stage ranges old rest given h = record {
   typed = λ t.
       (let parts = typed_fronts stage old rest t in
@@ -113,19 +118,23 @@ improves_parts stage ranges old rest given h = record {
       are_typed-append stage (ops_of given) rest new.0 (subst (λ (s : Stage). are_typed s rest ≡ true) (sym new.1) parts.1));
   last = λ l. last_given given rest (last_behind_all old rest h.inner l);
   lighter = omega (arith, h.lighter, weight-append old rest, weight-append (ops_of given) rest);
-  shorter = omega (arith, not_empty old (weight (ops_of given)) h.lighter, most_one given, length-append old rest, length-append (ops_of given) rest);
+  shorter = omega (arith, not_empty old (weight (ops_of given)) h.lighter, most_one given, length-append old rest, length-append
+      (ops_of given) rest);
   same = λ frame position v at. h.same frame position v at;
 }
 
-pub improves_here : (stage : Stage) (ranges : List ValueRange) (ops : List Op) (change : Change) → Replacement stage ranges ops change → Improves stage ranges ops (changed ops change)
+pub improves_here : (stage : Stage) (ranges : List ValueRange) (ops : List Op) (change : Change) → Replacement stage ranges ops change
+    → Improves stage ranges ops (changed ops change)
 improves_here stage ranges ops change r =
     subst (λ (o : List Op). Improves stage ranges o (changed ops change)) (sym r.split)
-    (subst (λ (n : List Op). Improves stage ranges (r.old ++ r.rest) n) (sym (ap (with_given change.given) r.behind ∙ given_before change.given r.rest))
+    (subst (λ (n : List Op). Improves stage ranges (r.old ++ r.rest) n) (sym (ap (with_given change.given) r.behind
+    ∙ given_before change.given r.rest))
     (improves_parts stage ranges r.old r.rest change.given r.replaces))
 
 -- ---- behind an operation
 next_at : (frame : List ℕ) (position : PixelPosition) (stage : Stage) (ranges : List ValueRange) (op next : Op) (ops : List Op) (v : Values)
-    → At stage ranges (op ∷ next ∷ ops) frame v → At (stage_after stage op) (ranges_after stage op ranges) (next ∷ ops) frame (apply frame position stage op v)
+    → At stage ranges (op ∷ next ∷ ops) frame v → At (stage_after stage op) (ranges_after stage op ranges) (next ∷ ops) frame
+    (apply frame position stage op v)
 next_at frame position stage ranges op next ops v h =
     let t = typed_parts stage op (next ∷ ops) h.typed in
     let inner = before_other stage op next ops h.typed in
@@ -148,7 +157,8 @@ weight_same : (op : Op) (ops after : List Op) → weight after < weight ops → 
 unfolding weight
 weight_same op ops after h = omega arith
 
-run_behind : (frame : List ℕ) (position : PixelPosition) (stage : Stage) (op : Op) (ops : List Op) (v : Values) → run_from frame position stage (op ∷ ops) v ≡ run_from frame position (stage_after stage op) ops (apply frame position stage op v)
+run_behind : (frame : List ℕ) (position : PixelPosition) (stage : Stage) (op : Op) (ops : List Op) (v : Values)
+    → run_from frame position stage (op ∷ ops) v ≡ run_from frame position (stage_after stage op) ops (apply frame position stage op v)
 unfolding run_from
 run_behind frame position stage op ops v = refl
 
@@ -156,7 +166,8 @@ tail_last : (op next : Op) (ops : List Op) → ends_with_write (op ∷ next ∷ 
 unfolding ends_with_write
 tail_last op next ops h = h
 
-pub improves_behind : (stage : Stage) (ranges : List ValueRange) (op : Op) (ops after : List Op) → Improves (stage_after stage op) (ranges_after stage op ranges) ops after → Improves stage ranges (op ∷ ops) (op ∷ after)
+pub improves_behind : (stage : Stage) (ranges : List ValueRange) (op : Op) (ops after : List Op)
+    → Improves (stage_after stage op) (ranges_after stage op ranges) ops after → Improves stage ranges (op ∷ ops) (op ∷ after)
 improves_behind stage ranges op [] after h = absurd (nothing_lighter after h.lighter)
 improves_behind stage ranges op (next ∷ ops) after h = record {
   typed = λ typed. (let t = typed_parts stage op (next ∷ ops) typed in typed_from stage op after t.0 t.1 (h.typed t.2));
@@ -164,6 +175,7 @@ improves_behind stage ranges op (next ∷ ops) after h = record {
   lighter = weight_same op (next ∷ ops) after h.lighter;
   shorter = omega (arith, h.shorter);
   same = λ frame position v at.
-      run_behind frame position stage op after v ∙ h.same frame position (apply frame position stage op v) (next_at frame position stage ranges op next ops v at)
+      run_behind frame position stage op after v ∙ h.same frame position (apply frame position stage op v)
+      (next_at frame position stage ranges op next ops v at)
       ∙ sym (run_behind frame position stage op (next ∷ ops) v);
 }

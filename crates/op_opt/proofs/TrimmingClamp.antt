@@ -57,9 +57,11 @@ as_fraction (Numbers v) i h = absurd (cc)
 as_fraction (Fractions v) i h = refl
 
 -- ---- the values agree
-min_agrees : (limits : List (Option ℚ)) (i : ℕ) (ranges : List ValueRange) (used : List Bool) (v : Values) → i < 4 → are_fractions v ≡ true → AreWithin ranges v
+min_agrees : (limits : List (Option ℚ)) (i : ℕ) (ranges : List ValueRange) (used : List Bool) (v : Values) → i < 4
+    → are_fractions v ≡ true → AreWithin ranges v
     → (not (is_used used i) || is_known_at_most (range_in ranges i).greatest (entry limits i)) ≡ true
-    → Agree used (Fractions (four (λ j. at_most (entry (without limits i) j) (fraction v j)))) (Fractions (four (λ j. at_most (entry limits j) (fraction v j))))
+    → Agree used (Fractions (four (λ j. at_most (entry (without limits i) j) (fraction v j)))) (Fractions (four
+    (λ j. at_most (entry limits j) (fraction v j))))
 min_agrees limits i ranges used v place kind within idle =
     agree_fractions used (λ j. at_most (entry (without limits i) j) (fraction v j)) (λ j. at_most (entry limits j) (fraction v j))
     (λ j below u. by_place j i
@@ -70,9 +72,11 @@ min_agrees limits i ranges used v place kind within idle =
     (if_used (is_used used i) _ idle (sym (ap (is_used used) e) ∙ u)))))
     (λ other. ap (λ x. at_most x (fraction v j)) (other_entry limits i j below other)))
 
-max_agrees : (limits : List (Option ℚ)) (i : ℕ) (ranges : List ValueRange) (used : List Bool) (v : Values) → i < 4 → are_fractions v ≡ true → AreWithin ranges v
+max_agrees : (limits : List (Option ℚ)) (i : ℕ) (ranges : List ValueRange) (used : List Bool) (v : Values) → i < 4
+    → are_fractions v ≡ true → AreWithin ranges v
     → (not (is_used used i) || is_known_at_most (entry limits i) (range_in ranges i).least) ≡ true
-    → Agree used (Fractions (four (λ j. at_least (entry (without limits i) j) (fraction v j)))) (Fractions (four (λ j. at_least (entry limits j) (fraction v j))))
+    → Agree used (Fractions (four (λ j. at_least (entry (without limits i) j) (fraction v j)))) (Fractions (four
+    (λ j. at_least (entry limits j) (fraction v j))))
 max_agrees limits i ranges used v place kind within idle =
     agree_fractions used (λ j. at_least (entry (without limits i) j) (fraction v j)) (λ j. at_least (entry limits j) (fraction v j))
     (λ j below u. by_place j i
@@ -84,16 +88,19 @@ max_agrees limits i ranges used v place kind within idle =
     (λ other. ap (λ x. at_least x (fraction v j)) (other_entry limits i j below other)))
 
 -- ---- Min
-min_lighter : (limits : List (Option ℚ)) (i : ℕ) → i < 4 → is_given (entry limits i) ≡ true → weight (Min (without limits i) ∷ []) < weight (Min limits ∷ [])
+min_lighter : (limits : List (Option ℚ)) (i : ℕ) → i < 4 → is_given (entry limits i) ≡ true
+    → weight (Min (without limits i) ∷ []) < weight (Min limits ∷ [])
 unfolding weight weight_of
 min_lighter limits i below h = omega (arith, fewer_entries limits i below h)
 
 min_typed : (stage : Stage) (limits : List (Option ℚ)) (i : ℕ) → are_typed stage (Min limits ∷ []) ≡ true
-    → (are_typed stage (Min (without limits i) ∷ []) ≡ true) × (stage_from stage (Min (without limits i) ∷ []) ≡ stage_from stage (Min limits ∷ []))
+    → (are_typed stage (Min (without limits i) ∷ []) ≡ true) × (stage_from stage (Min (without limits i) ∷ []) ≡ stage_from stage
+    (Min limits ∷ []))
 unfolding are_typed stage_from may_follow are_good stage_after
 min_typed stage limits i h = (h, refl)
 
-min_rational : (stage : Stage) (limits : List (Option ℚ)) (rest : List Op) → are_typed stage (Min limits ∷ rest) ≡ true → is_rational stage ≡ true
+min_rational : (stage : Stage) (limits : List (Option ℚ)) (rest : List Op) → are_typed stage (Min limits ∷ rest) ≡ true
+    → is_rational stage ≡ true
 unfolding may_follow
 min_rational stage limits rest h = (typed_parts stage (Min limits) rest h).0
 
@@ -102,7 +109,8 @@ min_run : (frame : List ℕ) (position : PixelPosition) (stage : Stage) (limits 
 unfolding run_from apply
 min_run frame position stage limits v = refl
 
-min_replaces : (stage : Stage) (ranges : List ValueRange) (limits : List (Option ℚ)) (i : ℕ) (rest : List Op) → i < 4 → is_given (entry limits i) ≡ true
+min_replaces : (stage : Stage) (ranges : List ValueRange) (limits : List (Option ℚ)) (i : ℕ) (rest : List Op) → i < 4
+    → is_given (entry limits i) ≡ true
     → (not (is_used (used_from rest) i) || is_known_at_most (range_in ranges i).greatest (entry limits i)) ≡ true
     → Replaces stage ranges (Min limits ∷ []) (Some (Min (without limits i))) rest
 unfolding stage_from stage_after
@@ -111,22 +119,26 @@ min_replaces stage ranges limits i rest below given idle = record {
   lighter = min_lighter limits i below given;
   typed = min_typed stage limits i;
   same = λ frame position v at.
-      same_by_agreement frame position stage (Min limits ∷ []) rest (Some (Min (without limits i))) v at.typed (last_behind (Min limits) rest refl at.last) refl
+      same_by_agreement frame position stage (Min limits ∷ []) rest (Some (Min (without limits i))) v at.typed (last_behind
+      (Min limits) rest refl at.last) refl
       (rw (← min_run frame position stage (without limits i) v, ← min_run frame position stage limits v)
       (min_agrees limits i ranges (used_from rest) v below (at.kind ∙ min_rational stage limits rest at.typed) at.within idle));
 }
 
 -- ---- Max
-max_lighter : (limits : List (Option ℚ)) (i : ℕ) → i < 4 → is_given (entry limits i) ≡ true → weight (Max (without limits i) ∷ []) < weight (Max limits ∷ [])
+max_lighter : (limits : List (Option ℚ)) (i : ℕ) → i < 4 → is_given (entry limits i) ≡ true
+    → weight (Max (without limits i) ∷ []) < weight (Max limits ∷ [])
 unfolding weight weight_of
 max_lighter limits i below h = omega (arith, fewer_entries limits i below h)
 
 max_typed : (stage : Stage) (limits : List (Option ℚ)) (i : ℕ) → are_typed stage (Max limits ∷ []) ≡ true
-    → (are_typed stage (Max (without limits i) ∷ []) ≡ true) × (stage_from stage (Max (without limits i) ∷ []) ≡ stage_from stage (Max limits ∷ []))
+    → (are_typed stage (Max (without limits i) ∷ []) ≡ true) × (stage_from stage (Max (without limits i) ∷ []) ≡ stage_from stage
+    (Max limits ∷ []))
 unfolding are_typed stage_from may_follow are_good stage_after
 max_typed stage limits i h = (h, refl)
 
-max_rational : (stage : Stage) (limits : List (Option ℚ)) (rest : List Op) → are_typed stage (Max limits ∷ rest) ≡ true → is_rational stage ≡ true
+max_rational : (stage : Stage) (limits : List (Option ℚ)) (rest : List Op) → are_typed stage (Max limits ∷ rest) ≡ true
+    → is_rational stage ≡ true
 unfolding may_follow
 max_rational stage limits rest h = (typed_parts stage (Max limits) rest h).0
 
@@ -135,7 +147,8 @@ max_run : (frame : List ℕ) (position : PixelPosition) (stage : Stage) (limits 
 unfolding run_from apply
 max_run frame position stage limits v = refl
 
-max_replaces : (stage : Stage) (ranges : List ValueRange) (limits : List (Option ℚ)) (i : ℕ) (rest : List Op) → i < 4 → is_given (entry limits i) ≡ true
+max_replaces : (stage : Stage) (ranges : List ValueRange) (limits : List (Option ℚ)) (i : ℕ) (rest : List Op) → i < 4
+    → is_given (entry limits i) ≡ true
     → (not (is_used (used_from rest) i) || is_known_at_most (entry limits i) (range_in ranges i).least) ≡ true
     → Replaces stage ranges (Max limits ∷ []) (Some (Max (without limits i))) rest
 unfolding stage_from stage_after
@@ -144,7 +157,8 @@ max_replaces stage ranges limits i rest below given idle = record {
   lighter = max_lighter limits i below given;
   typed = max_typed stage limits i;
   same = λ frame position v at.
-      same_by_agreement frame position stage (Max limits ∷ []) rest (Some (Max (without limits i))) v at.typed (last_behind (Max limits) rest refl at.last) refl
+      same_by_agreement frame position stage (Max limits ∷ []) rest (Some (Max (without limits i))) v at.typed (last_behind
+      (Max limits) rest refl at.last) refl
       (rw (← max_run frame position stage (without limits i) v, ← max_run frame position stage limits v)
       (max_agrees limits i ranges (used_from rest) v below (at.kind ∙ max_rational stage limits rest at.typed) at.within idle));
 }
@@ -152,19 +166,23 @@ max_replaces stage ranges limits i rest below given idle = record {
 pub trim_clamp_sound : IsSound (λ stage ranges ops. trim_clamp ranges ops)
 unfolding trim_clamp
 trim_clamp_sound stage ranges (Min limits ∷ rest) change is =
-    let test = λ (i : ℕ). is_given (entry limits i) && (not (is_used (used_from rest) i) || is_known_at_most (range_in ranges i).greatest (entry limits i)) in
+    let test = λ (i : ℕ). is_given (entry limits i) && (not (is_used (used_from rest) i) || is_known_at_most (range_in ranges i).greatest
+    (entry limits i)) in
     option_and_then_some _ (lowest test) change is
     (λ i first same.
     (let l = lowest_passes test i first in
     let p = and_parts (is_given (entry limits i)) _ l.1 in
     subst (λ (c : Change). Replacement stage ranges (Min limits ∷ rest) c) (same_Some _ change same)
-    (record { old = Min limits ∷ []; rest = rest; split = refl; behind = refl; replaces = min_replaces stage ranges limits i rest l.0 p.0 p.1 })))
+    (record { old = Min limits ∷ []; rest = rest; split = refl; behind = refl; replaces =
+    min_replaces stage ranges limits i rest l.0 p.0 p.1 })))
 trim_clamp_sound stage ranges (Max limits ∷ rest) change is =
-    let test = λ (i : ℕ). is_given (entry limits i) && (not (is_used (used_from rest) i) || is_known_at_most (entry limits i) (range_in ranges i).least) in
+    let test = λ (i : ℕ). is_given (entry limits i) && (not (is_used (used_from rest) i) || is_known_at_most (entry limits i)
+    (range_in ranges i).least) in
     option_and_then_some _ (lowest test) change is
     (λ i first same.
     (let l = lowest_passes test i first in
     let p = and_parts (is_given (entry limits i)) _ l.1 in
     subst (λ (c : Change). Replacement stage ranges (Max limits ∷ rest) c) (same_Some _ change same)
-    (record { old = Max limits ∷ []; rest = rest; split = refl; behind = refl; replaces = max_replaces stage ranges limits i rest l.0 p.0 p.1 })))
+    (record { old = Max limits ∷ []; rest = rest; split = refl; behind = refl; replaces =
+    max_replaces stage ranges limits i rest l.0 p.0 p.1 })))
 trim_clamp_sound stage ranges _ change is = absurd (none-some change is)

@@ -29,7 +29,8 @@ use Rattle.op_opt.proofs.PassedTests.{from_not}
 use Rattle.op_opt.proofs.Replacing.{IsSound, Replaces, Replacement, same_by_agreement}
 use Rattle.op_opt.proofs.Dropping.{lowest_passes, other_entry, by_place, one_unused, without_fits, fewer_entries}
 
-lighter : (entries : List (Option ℚ)) (i : ℕ) → i < 4 → is_given (entry entries i) ≡ true → weight (Clear (without entries i) ∷ []) < weight (Clear entries ∷ [])
+lighter : (entries : List (Option ℚ)) (i : ℕ) → i < 4 → is_given (entry entries i) ≡ true
+    → weight (Clear (without entries i) ∷ []) < weight (Clear entries ∷ [])
 unfolding weight weight_of
 lighter entries i below h = omega (arith, fewer_entries entries i below h)
 
@@ -38,26 +39,35 @@ or_weaker true b c along h = refl
 or_weaker false b c along h = along h
 
 typed : (stage : Stage) (entries : List (Option ℚ)) (i : ℕ) → are_typed stage (Clear entries ∷ []) ≡ true
-    → (are_typed stage (Clear (without entries i) ∷ []) ≡ true) × (stage_from stage (Clear (without entries i) ∷ []) ≡ stage_from stage (Clear entries ∷ []))
+    → (are_typed stage (Clear (without entries i) ∷ []) ≡ true) × (stage_from stage (Clear (without entries i) ∷ []) ≡ stage_from stage
+    (Clear entries ∷ []))
 unfolding are_typed stage_from may_follow are_good stage_after
 typed stage entries i h =
     let t = typed_parts stage (Clear entries) [] h in
-    (and_from _ true (and_from _ _ t.0 (or_weaker (is_rational stage) (all_fit (bits_at stage) entries) (all_fit (bits_at stage) (without entries i)) (without_fits (bits_at stage) i entries) t.1)) refl, refl)
+    (and_from _ true (and_from _ _ t.0 (or_weaker (is_rational stage) (all_fit (bits_at stage) entries) (all_fit (bits_at stage)
+    (without entries i)) (without_fits (bits_at stage) i entries) t.1)) refl, refl)
 
-agrees : (entries : List (Option ℚ)) (i : ℕ) (used : List Bool) (v : Values) → is_used used i ≡ false → Agree used (cleared (without entries i) v) (cleared entries v)
+agrees : (entries : List (Option ℚ)) (i : ℕ) (used : List Bool) (v : Values) → is_used used i ≡ false
+    → Agree used (cleared (without entries i) v) (cleared entries v)
 agrees entries i used (Numbers v) free =
-    agree_numbers used (λ j. cleared_number (entry (without entries i) j) (slice_index v j)) (λ j. cleared_number (entry entries j) (slice_index v j))
-    (λ j below u. by_place j i (λ e. absurd (one_unused (is_used used) j i u free e)) (λ other. ap (λ x. cleared_number x (slice_index v j)) (other_entry entries i j below other)))
+    agree_numbers used (λ j. cleared_number (entry (without entries i) j) (slice_index v j)) (λ j. cleared_number (entry entries j)
+    (slice_index v j))
+    (λ j below u. by_place j i (λ e. absurd (one_unused (is_used used) j i u free e)) (λ other. ap
+    (λ x. cleared_number x (slice_index v j)) (other_entry entries i j below other)))
 agrees entries i used (Fractions v) free =
-    agree_fractions used (λ j. cleared_fraction (entry (without entries i) j) (fraction_in v j)) (λ j. cleared_fraction (entry entries j) (fraction_in v j))
-    (λ j below u. by_place j i (λ e. absurd (one_unused (is_used used) j i u free e)) (λ other. ap (λ x. cleared_fraction x (fraction_in v j)) (other_entry entries i j below other)))
+    agree_fractions used (λ j. cleared_fraction (entry (without entries i) j) (fraction_in v j)) (λ j. cleared_fraction (entry entries j)
+    (fraction_in v j))
+    (λ j below u. by_place j i (λ e. absurd (one_unused (is_used used) j i u free e)) (λ other. ap
+    (λ x. cleared_fraction x (fraction_in v j)) (other_entry entries i j below other)))
 
-after_one : (frame : List ℕ) (position : PixelPosition) (stage : Stage) (entries : List (Option ℚ)) (i : ℕ) (used : List Bool) (v : Values) → is_used used i ≡ false
+after_one : (frame : List ℕ) (position : PixelPosition) (stage : Stage) (entries : List (Option ℚ)) (i : ℕ) (used : List Bool)
+    (v : Values) → is_used used i ≡ false
     → Agree used (run_from frame position stage (Clear (without entries i) ∷ []) v) (run_from frame position stage (Clear entries ∷ []) v)
 unfolding run_from apply
 after_one frame position stage entries i used v free = agrees entries i used v free
 
-replaces : (stage : Stage) (ranges : List ValueRange) (entries : List (Option ℚ)) (i : ℕ) (rest : List Op) → i < 4 → is_given (entry entries i) ≡ true → is_used (used_from rest) i ≡ false
+replaces : (stage : Stage) (ranges : List ValueRange) (entries : List (Option ℚ)) (i : ℕ) (rest : List Op) → i < 4
+    → is_given (entry entries i) ≡ true → is_used (used_from rest) i ≡ false
     → Replaces stage ranges (Clear entries ∷ []) (Some (Clear (without entries i))) rest
 unfolding stage_from stage_after
 replaces stage ranges entries i rest below given free = record {
@@ -65,7 +75,8 @@ replaces stage ranges entries i rest below given free = record {
   lighter = lighter entries i below given;
   typed = typed stage entries i;
   same = λ frame position v at.
-      same_by_agreement frame position stage (Clear entries ∷ []) rest (Some (Clear (without entries i))) v at.typed (last_behind (Clear entries) rest refl at.last) refl
+      same_by_agreement frame position stage (Clear entries ∷ []) rest (Some (Clear (without entries i))) v at.typed (last_behind
+      (Clear entries) rest refl at.last) refl
       (after_one frame position stage entries i (used_from rest) v free);
 }
 
@@ -77,5 +88,6 @@ trim_clear_sound stage ranges (Clear entries ∷ rest) change is =
     (let l = lowest_passes (λ j. is_given (entry entries j) && not (is_used (used_from rest) j)) i first in
     let p = and_parts (is_given (entry entries i)) (not (is_used (used_from rest) i)) l.1 in
     subst (λ (c : Change). Replacement stage ranges (Clear entries ∷ rest) c) (same_Some _ change same)
-    (record { old = Clear entries ∷ []; rest = rest; split = refl; behind = refl; replaces = replaces stage ranges entries i rest l.0 p.0 (from_not _ p.1) })))
+    (record { old = Clear entries ∷ []; rest = rest; split = refl; behind = refl; replaces = replaces stage ranges entries i rest l.0 p.0
+    (from_not _ p.1) })))
 trim_clear_sound stage ranges _ change is = absurd (none-some change is)

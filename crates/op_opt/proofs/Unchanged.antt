@@ -31,7 +31,8 @@ no_number (Numbers v) i h = absurd (cc)
 no_number (Fractions v) i h = refl
 
 -- ---- values that agree with four others
-pub agree_with_numbers : (used : List Bool) (v : Values) (f : ℕ → ℕ) → are_fractions v ≡ false → ((i : ℕ) → i < 4 → is_used used i ≡ true → number v i ≡ f i)
+pub agree_with_numbers : (used : List Bool) (v : Values) (f : ℕ → ℕ) → are_fractions v ≡ false → ((i : ℕ) → i < 4
+    → is_used used i ≡ true → number v i ≡ f i)
     → Agree used v (Numbers (four f))
 agree_with_numbers used v f kind same = record {
   kind = kind;
@@ -39,7 +40,8 @@ agree_with_numbers used v f kind same = record {
   fractions = λ i below u. no_fraction v i kind;
 }
 
-pub agree_with_fractions : (used : List Bool) (v : Values) (f : ℕ → ℚ) → are_fractions v ≡ true → ((i : ℕ) → i < 4 → is_used used i ≡ true → fraction v i ≡ f i)
+pub agree_with_fractions : (used : List Bool) (v : Values) (f : ℕ → ℚ) → are_fractions v ≡ true → ((i : ℕ) → i < 4
+    → is_used used i ≡ true → fraction v i ≡ f i)
     → Agree used v (Fractions (four f))
 agree_with_fractions used v f kind same = record {
   kind = kind;
@@ -72,7 +74,8 @@ dropped_lighter op = omega (arith, weighs op)
 
 -- the values behind no operation, and behind one
 behind_one : (frame : List ℕ) (position : PixelPosition) (stage : Stage) (op : Op) (used : List Bool) (v : Values)
-    → Agree used v (apply frame position stage op v) → Agree used (run_from frame position stage [] v) (run_from frame position stage (op ∷ []) v)
+    → Agree used v (apply frame position stage op v) → Agree used (run_from frame position stage [] v) (run_from frame position stage
+    (op ∷ []) v)
 unfolding run_from
 behind_one frame position stage op used v h = h
 
@@ -82,7 +85,8 @@ stays stage op is = sym is
 
 -- where the values that it leaves agree with those before it
 pub dropped : (stage : Stage) (ranges : List ValueRange) (op : Op) (rest : List Op) → is_write op ≡ false → stage_after stage op ≡ stage
-    → ((frame : List ℕ) (position : PixelPosition) (v : Values) → At stage ranges (op ∷ rest) frame v → Agree (used_from rest) v (apply frame position stage op v))
+    → ((frame : List ℕ) (position : PixelPosition) (v : Values) → At stage ranges (op ∷ rest) frame v
+    → Agree (used_from rest) v (apply frame position stage op v))
     → Replaces stage ranges (op ∷ []) None rest
 dropped stage ranges op rest inner same agrees = record {
   inner = and_from _ true (ap not inner) refl;

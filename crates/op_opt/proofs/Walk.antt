@@ -34,16 +34,19 @@ or_else_some : {A P : Type 0} (a b : Option A) (x : A) → or_else a b ≡ Some 
 or_else_some None b x h here there = there h
 or_else_some (Some y) b x h here there = here h
 
-pub first_place_improves : (rule : Rule) → IsSound rule → (stage : Stage) (ranges : List ValueRange) (ops after : List Op) → first_place rule stage ranges ops ≡ Some after → Improves stage ranges ops after
+pub first_place_improves : (rule : Rule) → IsSound rule → (stage : Stage) (ranges : List ValueRange) (ops after : List Op)
+    → first_place rule stage ranges ops ≡ Some after → Improves stage ranges ops after
 unfolding first_place
 first_place_improves rule sound stage ranges [] after h = absurd (none-some after h)
 first_place_improves rule sound stage ranges (op ∷ ops) after h =
     or_else_some _ _ after h
     (λ here. option_map_some (λ change. changed (op ∷ ops) change) (rule stage ranges (op ∷ ops)) after here
-    (λ change is same. subst (λ (n : List Op). Improves stage ranges (op ∷ ops) n) same (improves_here stage ranges (op ∷ ops) change (sound stage ranges (op ∷ ops) change is))))
+    (λ change is same. subst (λ (n : List Op). Improves stage ranges (op ∷ ops) n) same (improves_here stage ranges (op ∷ ops) change
+    (sound stage ranges (op ∷ ops) change is))))
     (λ there. option_map_some (λ rest. op ∷ rest) (first_place rule (stage_after stage op) (ranges_after stage op ranges) ops) after there
     (λ rest is same. subst (λ (n : List Op). Improves stage ranges (op ∷ ops) n) same
-    (improves_behind stage ranges op ops rest (first_place_improves rule sound (stage_after stage op) (ranges_after stage op ranges) ops rest is))))
+    (improves_behind stage ranges op ops rest (first_place_improves rule sound (stage_after stage op)
+    (ranges_after stage op ranges) ops rest is))))
 
 -- ---- each pass
 pub passes_sound : (pass : Pass) → IsSound (change_at pass)
@@ -60,11 +63,13 @@ passes_sound ExpandBytes = expand_bytes_sound
 passes_sound ResetUnused = reset_unused_sound
 passes_sound CancelPacking = cancel_packing_sound
 
-first_pass_improves : (list : List Pass) (ops after : List Op) → first_of_passes list ops ≡ Some after → Improves Start start_ranges ops after
+first_pass_improves : (list : List Pass) (ops after : List Op) → first_of_passes list ops ≡ Some after
+    → Improves Start start_ranges ops after
 unfolding first_of_passes
 first_pass_improves [] ops after h = absurd (none-some after h)
 first_pass_improves (pass ∷ rest) ops after h =
-    or_else_some _ _ after h (λ here. first_place_improves (change_at pass) (passes_sound pass) Start start_ranges ops after here) (λ there. first_pass_improves rest ops after there)
+    or_else_some _ _ after h (λ here. first_place_improves (change_at pass) (passes_sound pass) Start start_ranges ops after here)
+    (λ there. first_pass_improves rest ops after there)
 
 pub step_improves : (ops after : List Op) → step ops ≡ Some after → Improves Start start_ranges ops after
 unfolding step

@@ -1,4 +1,5 @@
--- Join two shifts: of one direction where they come to fewer than all bits, and a left one before a right one where no used value loses bits.
+-- Join two shifts: of one direction where they come to fewer than all bits, and a left one before a right one where no used value loses
+-- bits.
 use Rattle.std.specs.Prelude.{ℕ, ◌+◌, ◌-◌, ◌^◌, Bool, ◌||◌, not, if◌then◌else◌, nat_lt, nat_le, List, ◌∷◌, Option, Some, None}
 use Rattle.std.specs.Option.{option_and_then}
 use Rattle.frac_math.specs.Fraction.{ℚ, nat, is_at_most}

@@ -37,5 +37,6 @@ change_at CancelPacking stage ranges ops = cancel_packing stage ops
 -- in the order in which they are tried
 abbrev pub passes : List Pass
 passes =
-    DropIdle ∷ JoinSwizzles ∷ JoinShifts ∷ CancelSwaps ∷ TrimClear ∷ TrimClamp ∷ DropDither ∷ JoinMaps ∷ SkipFraction ∷ ExpandBytes ∷ ResetUnused
+    DropIdle ∷ JoinSwizzles ∷ JoinShifts ∷ CancelSwaps ∷ TrimClear ∷ TrimClamp ∷ DropDither ∷ JoinMaps ∷ SkipFraction ∷ ExpandBytes
+    ∷ ResetUnused
     ∷ CancelPacking ∷ []

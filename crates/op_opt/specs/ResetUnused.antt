@@ -15,7 +15,8 @@ use Rattle.op_opt.specs.OfFour.{lowest}
 -- the row that gives value i back
 abbrev pub identity_row : ℕ → List ℚ
 identity_row i =
-    identity_coefficient i 0 ∷ identity_coefficient i 1 ∷ identity_coefficient i 2 ∷ identity_coefficient i 3 ∷ identity_coefficient i 4 ∷ []
+    identity_coefficient i 0 ∷ identity_coefficient i 1 ∷ identity_coefficient i 2 ∷ identity_coefficient i 3 ∷ identity_coefficient i 4
+    ∷ []
 
 -- the rows, and the indices, with the identity for value i
 abbrev pub reset_row : List (List ℚ) → ℕ → List (List ℚ)

@@ -22,8 +22,10 @@ is_known_at_most (Some x) None = false
 unfoldable pub trim_clamp : List ValueRange → List Op → Option Change
 trim_clamp ranges (Min limits ∷ rest) =
     option_and_then (λ i. taking 1 (Some (Min (without limits i))))
-    (lowest (λ i. is_given (entry limits i) && (not (is_used (used_from rest) i) || is_known_at_most (range_in ranges i).greatest (entry limits i))))
+    (lowest (λ i. is_given (entry limits i) && (not (is_used (used_from rest) i) || is_known_at_most (range_in ranges i).greatest
+    (entry limits i))))
 trim_clamp ranges (Max limits ∷ rest) =
     option_and_then (λ i. taking 1 (Some (Max (without limits i))))
-    (lowest (λ i. is_given (entry limits i) && (not (is_used (used_from rest) i) || is_known_at_most (entry limits i) (range_in ranges i).least)))
+    (lowest (λ i. is_given (entry limits i) && (not (is_used (used_from rest) i) || is_known_at_most (entry limits i)
+    (range_in ranges i).least)))
 trim_clamp ranges ops = None

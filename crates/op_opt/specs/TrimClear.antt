@@ -12,5 +12,6 @@ use Rattle.op_opt.specs.OfFour.{lowest}
 
 unfoldable pub trim_clear : List Op → Option Change
 trim_clear (Clear entries ∷ rest) =
-    option_and_then (λ i. taking 1 (Some (Clear (without entries i)))) (lowest (λ i. is_given (entry entries i) && not (is_used (used_from rest) i)))
+    option_and_then (λ i. taking 1 (Some (Clear (without entries i)))) (lowest (λ i. is_given (entry entries i)
+    && not (is_used (used_from rest) i)))
 trim_clear ops = None

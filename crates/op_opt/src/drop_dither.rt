@@ -10,7 +10,8 @@ use frac_math::Frac;
 use op_list::Op;
 use op_range::{Ranges, Used, used_from};
 
-// No dither where each used value is whole, and only what keeps floors the same stands before the next Convert to a whole type.
+// No dither where each used value is whole, and only what keeps floors the same stands before the
+// next Convert to a whole type.
 #[tactic(auto, unfolding(crate::specs::DropDither::drop_dither))]
 pub fn drop_dither(ranges: &Ranges, ops: &[Op]) -> Option<Change>
     ensures { result ≡ drop_dither ranges.now ops.now }
@@ -31,7 +32,8 @@ pub fn drop_dither(ranges: &Ranges, ops: &[Op]) -> Option<Change>
 }
 
 fn used_are_whole(ranges: &Ranges, used: &Used) -> bool
-    ensures { result ≡ all_of_four (λ i. not (is_used used.now i) || (range_in ranges.now i).whole) }
+    ensures { result ≡ all_of_four (λ i. not (is_used used.now i) ||
+        (range_in ranges.now i).whole) }
 {
     (!used[0] || ranges[0].whole)
         && (!used[1] || ranges[1].whole)

@@ -1,4 +1,5 @@
-ghost use Rattle.std.specs.Prelude.{◌≡◌, ◌<◌, IfSome, slice_index_or, false, nat_eq, if◌then◌else◌, None, not};
+ghost use Rattle.std.specs.Prelude.{◌≡◌, ◌<◌, IfSome, slice_index_or, false, nat_eq, if◌then◌else◌};
+ghost use Rattle.std.specs.Prelude.{None, not};
 ghost use Rattle.op_list.specs.Values.{four, entry};
 ghost use Rattle.op_range.specs.Used.{is_missing};
 ghost use Rattle.op_opt.specs.Entries.{without, is_given};

@@ -4,7 +4,7 @@ ghost use Rattle.frac_math.specs.Fraction.{nat};
 ghost use Rattle.op_opt.specs.JoinShifts.{join_shifts, has_room, used_have_room};
 ghost use Rattle.op_opt.specs.JoinShifts.{shift_between, sum_below};
 
-use crate::change::Change;
+use crate::change::{Change, joined};
 use frac_math::Frac;
 use op_list::{Op, Stage};
 use op_range::{Ranges, Used, is_at_most, used_from};
@@ -31,15 +31,6 @@ pub fn join_shifts(stage: Stage, ranges: &Ranges, ops: &[Op]) -> Option<Change>
             }
         }
         _ => None,
-    }
-}
-
-fn joined(op: Op) -> Change
-    ensures { result ≡ record { taken = 2; given = Some op } }
-{
-    Change {
-        taken: 2,
-        given: Some(op),
     }
 }
 

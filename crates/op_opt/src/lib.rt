@@ -1,4 +1,5 @@
-//! The optimiser of lists of operations: passes that each take some operations and give at most one in their place.
+//! The optimiser of lists of operations: passes that each take some operations and give at most one
+//! in their place.
 #![tactic(auto)]
 
 mod cancel_packing;

@@ -11,7 +11,8 @@ use frac_math::Frac;
 use op_list::Op;
 use op_range::{Ranges, Used, is_at_most, used_from};
 
-// A Min or a Max without the entry of the lowest value that is not used after it, or that lies within the limit before it.
+// A Min or a Max without the entry of the lowest value that is not used after it, or that lies
+// within the limit before it.
 #[tactic(auto, unfolding(crate::specs::TrimClamp::trim_clamp))]
 pub fn trim_clamp(ranges: &Ranges, ops: &[Op]) -> Option<Change>
     ensures { result ≡ trim_clamp ranges.now ops.now }
@@ -46,7 +47,9 @@ pub fn trim_clamp(ranges: &Ranges, ops: &[Op]) -> Option<Change>
 }
 
 fn idle_above(limits: &[Option<Frac>; 4], ranges: &Ranges, used: &Used) -> [bool; 4]
-    ensures { result ≡ four (λ i. is_given (entry limits.now i) && (not (is_used used.now i) || is_known_at_most (range_in ranges.now i).greatest (entry limits.now i))) }
+    ensures { result ≡ four (λ i. is_given (entry limits.now i)
+        && (not (is_used used.now i) || is_known_at_most (range_in ranges.now i).greatest
+        (entry limits.now i))) }
 {
     [
         is_idle(
@@ -73,7 +76,9 @@ fn idle_above(limits: &[Option<Frac>; 4], ranges: &Ranges, used: &Used) -> [bool
 }
 
 fn idle_below(limits: &[Option<Frac>; 4], ranges: &Ranges, used: &Used) -> [bool; 4]
-    ensures { result ≡ four (λ i. is_given (entry limits.now i) && (not (is_used used.now i) || is_known_at_most (entry limits.now i) (range_in ranges.now i).least)) }
+    ensures { result ≡ four (λ i. is_given (entry limits.now i)
+        && (not (is_used used.now i) || is_known_at_most (entry limits.now i)
+        (range_in ranges.now i).least)) }
 {
     [
         is_idle(

@@ -10,7 +10,8 @@ pub append-requires : goal.append-requires
 append-requires c =
     let edit = c.args.edit.now in
     let front = take edit.at c.args.ops.now in
-    subst (λ (l : List Op). IsOpList (l ++ front)) (sym c.new-list.ensures) (front_is_list front (changed (drop edit.at c.args.ops.now) edit.change) c.requires.sound)
+    subst (λ (l : List Op). IsOpList (l ++ front)) (sym c.new-list.ensures) (front_is_list front (changed
+    (drop edit.at c.args.ops.now) edit.change) c.requires.sound)
 
 pub put-requires : goal.put-requires
 put-requires c =
