@@ -1,5 +1,5 @@
 -- Entries of which one is dropped: which one, what stays, and that there are fewer.
-use Rattle.std.proofs.Common.{◌≡◌, ℕ, zero, suc, ◌<◌, Bool, true, false, if◌then◌else◌, List, [], ◌∷◌, nat_eq, eqb-true, refl, sym, ◌∙◌, ap}
+use Rattle.std.proofs.Common.{◌≡◌, ℕ, zero, suc, ◌<◌, Bool, true, false, if◌then◌else◌, List, nat_eq, eqb-true, refl, sym, ◌∙◌, ap}
 use Rattle.std.proofs.Common.{arith}
 use Rattle.std.specs.Prelude.{Option, Some, None}
 use Rattle.std.proofs.lemmas.Option.{same_Some, none-some}
@@ -42,8 +42,10 @@ dropped_entry entries i below this = get_or-four (λ k. if nat_eq k i then None 
 
 -- what holds of value j holds of entry j after the drop: by whether j is the value
 pub by_place : {P : Type 0} (j i : ℕ) → (j ≡ i → P) → (nat_eq j i ≡ false → P) → P
-by_place {P = P} j i this other = (elim (nat_eq j i) as (λ b. nat_eq j i ≡ b → P) [ true ↦ λ e. this (eqb-true j i e)
-    | false ↦ λ e. other e ]) refl
+by_place {P = P} j i this other = (elim (nat_eq j i) as (λ b. nat_eq j i ≡ b → P) [
+  | true ↦ λ e. this (eqb-true j i e)
+  | false ↦ λ e. other e
+]) refl
 
 pub one_unused : (used : ℕ → Bool) (j i : ℕ) → used j ≡ true → used i ≡ false → j ≡ i → ⊥
 one_unused used j i t f e = both_ways (used i) f (sym (ap used e) ∙ t)

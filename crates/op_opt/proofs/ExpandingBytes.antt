@@ -138,8 +138,14 @@ replacement : (stage : Stage) (ranges : List ValueRange) (by to : PixType) (op :
     → Replacement stage ranges (Convert by first ∷ op ∷ Convert to last ∷ rest) change
 replacement stage ranges by to op first last rest change through e is =
     subst (λ (c : Change). Replacement stage ranges (Convert by first ∷ op ∷ Convert to last ∷ rest) c) (same_Some _ change is)
-    (record { old = Convert by first ∷ op ∷ Convert to last ∷ []; rest = rest; split = refl; behind = refl; replaces =
-    at_types stage ranges by to op first last rest through e })
+    (record {
+      old = Convert by first ∷ op ∷ Convert to last ∷ [];
+      rest = rest;
+      split = refl;
+      behind = refl;
+      replaces =
+          at_types stage ranges by to op first last rest through e;
+    })
 
 pub expand_bytes_sound : IsSound (λ stage ranges ops. expand_bytes stage ops)
 unfolding expand_bytes

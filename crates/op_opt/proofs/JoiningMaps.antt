@@ -228,8 +228,14 @@ replacement : (stage : Stage) (ranges : List ValueRange) (a b g : Op) (first sec
     → Replacement stage ranges (a ∷ b ∷ rest) change
 replacement stage ranges a b g first second joined rest change ma mb mg same is =
     subst (λ (c : Change). Replacement stage ranges (a ∷ b ∷ rest) c) (same_Some _ change is)
-    (record { old = a ∷ b ∷ []; rest = rest; split = refl; behind = refl; replaces =
-    replaces stage ranges a b g first second joined rest ma mb mg same })
+    (record {
+      old = a ∷ b ∷ [];
+      rest = rest;
+      split = refl;
+      behind = refl;
+      replaces =
+          replaces stage ranges a b g first second joined rest ma mb mg same;
+    })
 
 pub join_maps_sound : IsSound (λ stage ranges ops. join_maps ops)
 unfolding join_maps

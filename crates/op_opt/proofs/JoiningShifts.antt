@@ -74,8 +74,10 @@ is_most : (x y : ℚ) → x ≤ℚ y → true ≡ is_at_most x y
 is_most x y h = at_most_not_above x y (λ e. lt_not_le_ℚ y x (rw e at (order_is x y)) h)
 
 not_below_lt : (m n : ℕ) → (m ≤ n → ⊥) → n < m
-not_below_lt m n h = (elim (nat_le m n) as (λ t. nat_le m n ≡ t → n < m) [ true ↦ λ t. absurd (h (leb-true m n t))
-    | false ↦ λ t. grind (arith, t) ]) refl
+not_below_lt m n h = (elim (nat_le m n) as (λ t. nat_le m n ≡ t → n < m) [
+  | true ↦ λ t. absurd (h (leb-true m n t))
+  | false ↦ λ t. grind (arith, t)
+]) refl
 
 room_below : (n a count : ℕ) (greatest : Option ℚ) → has_room count a greatest ≡ true → IfSome greatest (λ most. nat n ≤ℚ most)
     → n < 2 ^ (count - a)
@@ -113,13 +115,25 @@ record IsShift (op : Op) (f : ℕ → ℕ → ℕ) : Type 0 where
 
 left_is : (n : ℕ) → IsShift (LeftShift n) (λ count x. x * 2 ^ n % 2 ^ count)
 unfolding apply weight_of may_follow stage_after
-left_is n = record { applies = λ frame position stage v. refl; inner = refl; weighs = refl; follows = λ stage. refl; leaves =
-    λ stage. refl }
+left_is n = record {
+  applies = λ frame position stage v. refl;
+  inner = refl;
+  weighs = refl;
+  follows = λ stage. refl;
+  leaves =
+      λ stage. refl;
+}
 
 right_is : (n : ℕ) → IsShift (RightShift n) (λ count x. x / 2 ^ n)
 unfolding apply weight_of may_follow stage_after
-right_is n = record { applies = λ frame position stage v. refl; inner = refl; weighs = refl; follows = λ stage. refl; leaves =
-    λ stage. refl }
+right_is n = record {
+  applies = λ frame position stage v. refl;
+  inner = refl;
+  weighs = refl;
+  follows = λ stage. refl;
+  leaves =
+      λ stage. refl;
+}
 
 -- ---- two shifts as one
 lighter : (a b g : Op) → weight_of a ≡ 64 → weight_of b ≡ 64 → weight_of g ≡ 64 → weight (g ∷ []) < weight (a ∷ b ∷ [])

@@ -91,6 +91,12 @@ pub join_swizzles_sound : IsSound (λ stage ranges ops. join_swizzles ops)
 unfolding join_swizzles
 join_swizzles_sound stage ranges (Swizzle first ∷ Swizzle second ∷ rest) change is =
     subst (λ (c : Change). Replacement stage ranges (Swizzle first ∷ Swizzle second ∷ rest) c) (same_Some _ change is)
-    (record { old = Swizzle first ∷ Swizzle second ∷ []; rest = rest; split = refl; behind = refl; replaces =
-    replaces stage ranges first second rest })
+    (record {
+      old = Swizzle first ∷ Swizzle second ∷ [];
+      rest = rest;
+      split = refl;
+      behind = refl;
+      replaces =
+          replaces stage ranges first second rest;
+    })
 join_swizzles_sound stage ranges _ change is = absurd (none-some change is)

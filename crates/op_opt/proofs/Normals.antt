@@ -48,8 +48,15 @@ start_small = record { each = λ i below. zero_at i }
 
 start_at : (ops : List Op) (frame : List ℕ) → IsOpList ops → ends_with_write ops ≡ true → All (λ byte. byte < 256) frame
     → At Start start_ranges ops frame no_values
-start_at ops frame list last bytes = record { typed = list.typed; last = last; bytes = bytes; kind = refl; within = start_within; small =
-    start_small }
+start_at ops frame list last bytes = record {
+  typed = list.typed;
+  last = last;
+  bytes = bytes;
+  kind = refl;
+  within = start_within;
+  small =
+      start_small;
+}
 
 improved : (ops after : List Op) → IsOpList ops → ends_with_write ops ≡ true → Improves Start start_ranges ops after → IsImproved ops after
 unfolding run

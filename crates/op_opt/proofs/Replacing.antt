@@ -118,8 +118,14 @@ improves_parts stage ranges old rest given h = record {
       are_typed-append stage (ops_of given) rest new.0 (subst (λ (s : Stage). are_typed s rest ≡ true) (sym new.1) parts.1));
   last = λ l. last_given given rest (last_behind_all old rest h.inner l);
   lighter = omega (arith, h.lighter, weight-append old rest, weight-append (ops_of given) rest);
-  shorter = omega (arith, not_empty old (weight (ops_of given)) h.lighter, most_one given, length-append old rest, length-append
-      (ops_of given) rest);
+  shorter = omega (
+    arith,
+    not_empty old (weight (ops_of given)) h.lighter,
+    most_one given,
+    length-append old rest,
+    length-append
+        (ops_of given) rest,
+  );
   same = λ frame position v at. h.same frame position v at;
 }
 

@@ -42,17 +42,45 @@ fewer_of_four : (before after : ℕ → Bool) (i : ℕ) → i < 4 → before i �
     → count_of_four after < count_of_four before
 unfolding count
 fewer_of_four before after zero below is none same =
-    omega (arith, ap count is, ap count none, ap count (same 1 (omega arith) refl), ap count (same 2 (omega arith) refl), ap count
-    (same 3 (omega arith) refl))
+    omega (
+      arith,
+      ap count is,
+      ap count none,
+      ap count (same 1 (omega arith) refl),
+      ap count (same 2 (omega arith) refl),
+      ap count
+          (same 3 (omega arith) refl),
+    )
 fewer_of_four before after (suc zero) below is none same =
-    omega (arith, ap count is, ap count none, ap count (same 0 (omega arith) refl), ap count (same 2 (omega arith) refl), ap count
-    (same 3 (omega arith) refl))
+    omega (
+      arith,
+      ap count is,
+      ap count none,
+      ap count (same 0 (omega arith) refl),
+      ap count (same 2 (omega arith) refl),
+      ap count
+          (same 3 (omega arith) refl),
+    )
 fewer_of_four before after (suc (suc zero)) below is none same =
-    omega (arith, ap count is, ap count none, ap count (same 0 (omega arith) refl), ap count (same 1 (omega arith) refl), ap count
-    (same 3 (omega arith) refl))
+    omega (
+      arith,
+      ap count is,
+      ap count none,
+      ap count (same 0 (omega arith) refl),
+      ap count (same 1 (omega arith) refl),
+      ap count
+          (same 3 (omega arith) refl),
+    )
 fewer_of_four before after (suc (suc (suc zero))) below is none same =
-    omega (arith, ap count is, ap count none, ap count (same 0 (omega arith) refl), ap count (same 1 (omega arith) refl), ap count
-    (same 2 (omega arith) refl))
+    omega (
+      arith,
+      ap count is,
+      ap count none,
+      ap count (same 0 (omega arith) refl),
+      ap count (same 1 (omega arith) refl),
+      ap count
+          (same 2 (omega arith) refl),
+    )
 fewer_of_four before after (suc (suc (suc (suc i)))) below is none same = absurd (omega arith)
 
 -- ---- one of four is reset
@@ -79,7 +107,7 @@ rows_lighter rows i below is =
     omega (
       arith,
       fewer_of_four (λ j. not (is_identity_row j (row_of rows j))) (λ j. not (is_identity_row j (row_of (reset_row rows i) j))) i below
-      (ap not is)
+          (ap not is)
           (ap not (ap (is_identity_row i) (this_of identity_row (row_of rows) i [] below) ∙ is_identity i below))
           (λ j inside other. ap (λ row. not (is_identity_row j row)) (other_of identity_row (row_of rows) i j [] inside other)),
     )
@@ -120,7 +148,7 @@ indices_lighter from i below is =
     omega (
       arith,
       fewer_of_four (λ j. not (nat_eq (slice_index from j) j)) (λ j. not (nat_eq (slice_index (reset_index from i) j) j)) i below
-      (ap not is)
+          (ap not is)
           (ap not (ap (λ k. nat_eq k i) (this_of (λ j. j) (slice_index from) i 0 below) ∙ eq-eqb i i refl))
           (λ j inside other. ap (λ k. not (nat_eq k j)) (other_of (λ k. k) (slice_index from) i j 0 inside other)),
     )
@@ -183,8 +211,14 @@ reset_unused_sound stage ranges (Linear rows ∷ rest) change is =
     (let l = lowest_passes test i first in
     let p = and_parts (not (is_used (used_from rest) i)) (not (is_identity_row i (row_of rows i))) l.1 in
     subst (λ (c : Change). Replacement stage ranges (Linear rows ∷ rest) c) (same_Some _ change same)
-    (record { old = Linear rows ∷ []; rest = rest; split = refl; behind = refl; replaces = rows_replaced stage ranges rows i rest l.0
-    (from_not _ p.0) (from_not _ p.1) })))
+    (record {
+      old = Linear rows ∷ [];
+      rest = rest;
+      split = refl;
+      behind = refl;
+      replaces = rows_replaced stage ranges rows i rest l.0
+          (from_not _ p.0) (from_not _ p.1);
+    })))
 reset_unused_sound stage ranges (Swizzle from ∷ rest) change is =
     let test = λ (i : ℕ). not (is_used (used_from rest) i) && not (nat_eq (slice_index from i) i) in
     option_and_then_some _ (lowest test) change is
@@ -192,6 +226,12 @@ reset_unused_sound stage ranges (Swizzle from ∷ rest) change is =
     (let l = lowest_passes test i first in
     let p = and_parts (not (is_used (used_from rest) i)) (not (nat_eq (slice_index from i) i)) l.1 in
     subst (λ (c : Change). Replacement stage ranges (Swizzle from ∷ rest) c) (same_Some _ change same)
-    (record { old = Swizzle from ∷ []; rest = rest; split = refl; behind = refl; replaces = indices_replaced stage ranges from i rest l.0
-    (from_not _ p.0) (from_not _ p.1) })))
+    (record {
+      old = Swizzle from ∷ [];
+      rest = rest;
+      split = refl;
+      behind = refl;
+      replaces = indices_replaced stage ranges from i rest l.0
+          (from_not _ p.0) (from_not _ p.1);
+    })))
 reset_unused_sound stage ranges _ change is = absurd (none-some change is)

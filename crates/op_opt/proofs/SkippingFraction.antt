@@ -97,6 +97,12 @@ skip_fraction_sound stage ranges (Convert by first ∷ Convert to expand ∷ res
     let q = and_parts (is_whole stage && is_same by Rat) (is_whole_type to) p.0 in
     let r = and_parts (is_whole stage) (is_same by Rat) q.0 in
     subst (λ (d : Change). Replacement stage ranges (Convert by first ∷ Convert to expand ∷ rest) d) (same_Some _ change c.1)
-    (record { old = Convert by first ∷ Convert to expand ∷ []; rest = rest; split = refl; behind = refl; replaces =
-    found stage ranges by to first expand rest r.0 r.1 q.1 })
+    (record {
+      old = Convert by first ∷ Convert to expand ∷ [];
+      rest = rest;
+      split = refl;
+      behind = refl;
+      replaces =
+          found stage ranges by to first expand rest r.0 r.1 q.1;
+    })
 skip_fraction_sound stage ranges _ change is = absurd (none-some change is)

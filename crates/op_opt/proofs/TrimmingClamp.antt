@@ -173,8 +173,14 @@ trim_clamp_sound stage ranges (Min limits ∷ rest) change is =
     (let l = lowest_passes test i first in
     let p = and_parts (is_given (entry limits i)) _ l.1 in
     subst (λ (c : Change). Replacement stage ranges (Min limits ∷ rest) c) (same_Some _ change same)
-    (record { old = Min limits ∷ []; rest = rest; split = refl; behind = refl; replaces =
-    min_replaces stage ranges limits i rest l.0 p.0 p.1 })))
+    (record {
+      old = Min limits ∷ [];
+      rest = rest;
+      split = refl;
+      behind = refl;
+      replaces =
+          min_replaces stage ranges limits i rest l.0 p.0 p.1;
+    })))
 trim_clamp_sound stage ranges (Max limits ∷ rest) change is =
     let test = λ (i : ℕ). is_given (entry limits i) && (not (is_used (used_from rest) i) || is_known_at_most (entry limits i)
     (range_in ranges i).least) in
@@ -183,6 +189,12 @@ trim_clamp_sound stage ranges (Max limits ∷ rest) change is =
     (let l = lowest_passes test i first in
     let p = and_parts (is_given (entry limits i)) _ l.1 in
     subst (λ (c : Change). Replacement stage ranges (Max limits ∷ rest) c) (same_Some _ change same)
-    (record { old = Max limits ∷ []; rest = rest; split = refl; behind = refl; replaces =
-    max_replaces stage ranges limits i rest l.0 p.0 p.1 })))
+    (record {
+      old = Max limits ∷ [];
+      rest = rest;
+      split = refl;
+      behind = refl;
+      replaces =
+          max_replaces stage ranges limits i rest l.0 p.0 p.1;
+    })))
 trim_clamp_sound stage ranges _ change is = absurd (none-some change is)

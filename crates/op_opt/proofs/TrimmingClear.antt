@@ -43,9 +43,11 @@ typed : (stage : Stage) (entries : List (Option ℚ)) (i : ℕ) → are_typed st
     (Clear entries ∷ []))
 unfolding are_typed stage_from may_follow are_good stage_after
 typed stage entries i h =
-    let t = typed_parts stage (Clear entries) [] h in
-    (and_from _ true (and_from _ _ t.0 (or_weaker (is_rational stage) (all_fit (bits_at stage) entries) (all_fit (bits_at stage)
-    (without entries i)) (without_fits (bits_at stage) i entries) t.1)) refl, refl)
+    let t = typed_parts stage (Clear entries) [] h in (
+      and_from _ true (and_from _ _ t.0 (or_weaker (is_rational stage) (all_fit (bits_at stage) entries) (all_fit (bits_at stage)
+          (without entries i)) (without_fits (bits_at stage) i entries) t.1)) refl,
+      refl,
+    )
 
 agrees : (entries : List (Option ℚ)) (i : ℕ) (used : List Bool) (v : Values) → is_used used i ≡ false
     → Agree used (cleared (without entries i) v) (cleared entries v)
@@ -88,6 +90,12 @@ trim_clear_sound stage ranges (Clear entries ∷ rest) change is =
     (let l = lowest_passes (λ j. is_given (entry entries j) && not (is_used (used_from rest) j)) i first in
     let p = and_parts (is_given (entry entries i)) (not (is_used (used_from rest) i)) l.1 in
     subst (λ (c : Change). Replacement stage ranges (Clear entries ∷ rest) c) (same_Some _ change same)
-    (record { old = Clear entries ∷ []; rest = rest; split = refl; behind = refl; replaces = replaces stage ranges entries i rest l.0 p.0
-    (from_not _ p.1) })))
+    (record {
+      old = Clear entries ∷ [];
+      rest = rest;
+      split = refl;
+      behind = refl;
+      replaces = replaces stage ranges entries i rest l.0 p.0
+          (from_not _ p.1);
+    })))
 trim_clear_sound stage ranges _ change is = absurd (none-some change is)

@@ -46,8 +46,7 @@ fn lies_in_full(bound: &Frac, bits: u32) -> bool
     is_at_most(&Frac::whole(0), bound) && is_at_most(bound, &most)
 }
 
-/// Whether a fraction is at most another one.
-pub fn is_at_most(a: &Frac, b: &Frac) -> bool
+fn is_at_most(a: &Frac, b: &Frac) -> bool
     ensures { result ≡ is_at_most a.now b.now }
 {
     match a.cmp(b) {

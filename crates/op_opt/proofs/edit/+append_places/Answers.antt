@@ -19,6 +19,8 @@ ranges_after-ranges-requires-clause-good t c =
     first_good c.args.stage c.args.ops.now c.op-item.result c.in-len1-up.len_at_least c.op-item.is c.requires
 
 pub append_places-requires : goal.append_places-requires
-append_places-requires t c =
-    (search rules, others_typed c.args.stage c.stage_after.result c.args.ops.now c.op-item.result c.in-len1-up.len_at_least c.op-item.is
-    c.requires c.stage_after.ensures)
+append_places-requires t c = (
+  search rules,
+  others_typed c.args.stage c.stage_after.result c.args.ops.now c.op-item.result c.in-len1-up.len_at_least c.op-item.is
+      c.requires c.stage_after.ensures,
+)
