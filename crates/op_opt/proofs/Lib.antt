@@ -24,3 +24,5 @@ pub mod AlongPlaces
 pub mod PeakMultiples
 pub mod PeakSteps
 pub mod PeakFronts
+pub mod PeakTidy
+pub mod PeakPasses

@@ -1,5 +1,5 @@
 -- A change of a list that does not raise the peak, at its place and behind other operations.
-use Rattle.std.proofs.Common.{◌≡◌, ℕ, zero, suc, ◌+◌, ◌*◌, ◌^◌, ◌<◌, ◌≤◌, Bool, true, false, ◌&&◌, ◌||◌, if◌then◌else◌, List, [], ◌∷◌}
+use Rattle.std.proofs.Common.{◌≡◌, ℕ, zero, suc, ◌+◌, ◌-◌, ◌*◌, ◌^◌, ◌<◌, ◌≤◌, Bool, true, false, ◌&&◌, ◌||◌, if◌then◌else◌, List, [], ◌∷◌}
 use Rattle.std.proofs.Common.{nat_eq, nat_lt, max, sum, subst, refl, sym, ◌∙◌, ap, arith}
 use Rattle.std.specs.Prelude.{slice_index}
 use Rattle.std.proofs.lemmas.Bool.{and_from, and_parts}
@@ -7,17 +7,18 @@ use Rattle.op_list.specs.declared.types.Stage.{Stage}
 use Rattle.op_list.specs.declared.op.Op.{Op}
 use Rattle.op_list.specs.declared.op.Op.TheVariants.{Read, Write, SwapBytes, Unpack, Pack, Clear, LeftShift, RightShift, Swizzle}
 use Rattle.op_list.specs.declared.op.Op.TheVariants.{Convert, Dither, Linear, Scale, Min, Max}
-use Rattle.op_list.specs.Types.{is_rational}
+use Rattle.op_list.specs.Types.{is_rational, bits_at}
 use Rattle.op_list.specs.Typing.{stage_after, are_typed}
 use Rattle.op_list.specs.Values.{four, entry}
 use Rattle.op_list.specs.Apply.{row_of}
 use Rattle.op_list.proofs.Four.{get_or-four}
 use Rattle.op_list.proofs.Typed.{typed_parts}
 use Rattle.op_range.specs.Used.{is_used, any_of_four, is_missing, takes, used_before, used_from}
+use Rattle.op_range.specs.Width.{fractions_width, whole_width, width_after}
 use Rattle.op_range.proofs.AnyOfFour.{any_from}
 use Rattle.op_range.proofs.Widths.{after_positive}
-use Rattle.op_opt.specs.Peak.{Peaked, peaked_after, peak_from}
-use Rattle.op_opt.proofs.PeakSteps.{IsPart, Below, step_below}
+use Rattle.op_opt.specs.Peak.{Peaked, fractions_peak, peaked_after, peak_from}
+use Rattle.op_opt.proofs.PeakSteps.{IsPart, Below, step_below, peaked, below_itself, fractions_after}
 
 -- ---- what is used before more
 or_split : {P : Type 0} (a b : Bool) → (a || b) ≡ true → (a ≡ true → P) → (b ≡ true → P) → P
@@ -84,7 +85,7 @@ used_part (Max limits) less used part = part
 
 -- ---- a change that does not raise the peak, from any state that is not above
 pub record Narrows (stage : Stage) (ops after : List Op) : Type 0 where
-  pub used : IsPart (used_from after) (used_from ops)
+  pub used : are_typed stage ops ≡ true → IsPart (used_from after) (used_from ops)
   pub peak : (s t : Peaked) → are_typed stage ops ≡ true → 0 < s.width.denominator → 0 < t.width.denominator
       → (is_rational stage ≡ true → Below (used_from ops) s t) → peak_from stage after s ≤ max (2 ^ 32) (peak_from stage ops t)
 
@@ -117,10 +118,10 @@ pub narrows_behind : (stage : Stage) (op : Op) (ops after : List Op) → Narrows
     → Narrows stage (op ∷ ops) (op ∷ after)
 unfolding peak_from
 narrows_behind stage op ops after h = record {
-  used = used_behind op ops after h.used;
+  used = λ typed. used_behind op ops after (h.used (typed_parts stage op ops typed).2);
   peak = λ s t typed p q b.
       (let parts = typed_parts stage op ops typed in
-      let next = step_below stage op (used_from after) (used_from ops) s t parts.0 parts.1 p q h.used
+      let next = step_below stage op (used_from after) (used_from ops) s t parts.0 parts.1 p q (h.used parts.2)
           (λ r. subst (λ (u : List Bool). Below u s t) (used_of op ops) (b r)) in
       let new = peaked_after stage op (used_from after) s in
       let old = peaked_after stage op (used_from ops) t in
@@ -133,12 +134,12 @@ narrows_behind stage op ops after h = record {
 
 pub narrows_same : (stage : Stage) (ops : List Op) → Narrows stage ops ops
 unfolding peak_from
-narrows_same stage [] = record { used = part_itself (used_from []); peak = λ s t typed p q b. omega arith }
+narrows_same stage [] = record { used = λ typed. part_itself (used_from []); peak = λ s t typed p q b. omega arith }
 narrows_same stage (op ∷ ops) = narrows_behind stage op ops ops (narrows_same (stage_after stage op) ops)
 
 -- ---- the same, from one state
 pub record Eases (stage : Stage) (ops after : List Op) : Type 0 where
-  pub used : IsPart (used_from after) (used_from ops)
+  pub used : are_typed stage ops ≡ true → IsPart (used_from after) (used_from ops)
   pub peak : (s : Peaked) → are_typed stage ops ≡ true → 0 < s.width.denominator
       → peak_from stage after s ≤ max (2 ^ 32) (peak_from stage ops s)
 
@@ -164,7 +165,7 @@ most_up f a b c h k = omega (arith, h, k)
 
 -- one operation is dropped
 pub eases_dropped : (stage : Stage) (op : Op) (rest : List Op) → (are_typed stage (op ∷ rest) ≡ true → stage_after stage op ≡ stage)
-    → IsPart (used_from rest) (used_before op (used_from rest))
+    → (are_typed stage (op ∷ rest) ≡ true → IsPart (used_from rest) (used_before op (used_from rest)))
     → ((s : Peaked) → is_rational stage ≡ true → Below (used_from rest) s (peaked_after stage op (used_from rest) s))
     → Eases stage (op ∷ rest) rest
 unfolding used_from
@@ -197,7 +198,7 @@ given_peak stage last g rest s t is typed p q below =
 
 -- one for one
 pub eases_one : (stage : Stage) (a g : Op) (rest : List Op) → stage_after stage g ≡ stage_after stage a
-    → IsPart (used_before g (used_from rest)) (used_before a (used_from rest))
+    → (are_typed stage (a ∷ rest) ≡ true → IsPart (used_before g (used_from rest)) (used_before a (used_from rest)))
     → ((s : Peaked) → are_typed stage (a ∷ rest) ≡ true → is_rational (stage_after stage a) ≡ true
         → Below (used_from rest) (peaked_after stage g (used_from rest) s) (peaked_after stage a (used_from rest) s))
     → Eases stage (a ∷ rest) (g ∷ rest)
@@ -210,7 +211,7 @@ eases_one stage a g rest is part below = record {
 
 -- one for two
 pub eases_two : (stage : Stage) (a b g : Op) (rest : List Op) → (are_typed stage (a ∷ b ∷ rest) ≡ true → stage_after stage g ≡ stage_after (stage_after stage a) b)
-    → IsPart (used_before g (used_from rest)) (used_before a (used_before b (used_from rest)))
+    → (are_typed stage (a ∷ b ∷ rest) ≡ true → IsPart (used_before g (used_from rest)) (used_before a (used_before b (used_from rest))))
     → ((s : Peaked) → are_typed stage (a ∷ b ∷ rest) ≡ true → 0 < s.width.denominator → is_rational (stage_after (stage_after stage a) b) ≡ true
         → Below (used_from rest) (peaked_after stage g (used_from rest) s)
             (peaked_after (stage_after stage a) b (used_from rest) (peaked_after stage a (used_before b (used_from rest)) s)))
@@ -231,3 +232,107 @@ eases_two stage a b g rest is part below = record {
       (below s typed p))
       (tail_peak stage a (b ∷ rest) s));
 }
+
+-- none for two
+pub eases_none : (stage : Stage) (a b : Op) (rest : List Op) → stage_after stage a ≡ stage → stage_after stage b ≡ stage
+    → (are_typed stage (a ∷ b ∷ rest) ≡ true → IsPart (used_from rest) (used_before a (used_before b (used_from rest))))
+    → ((s : Peaked) (used : List Bool) → is_rational stage ≡ true → peaked_after stage a used s ≡ s)
+    → ((s : Peaked) (used : List Bool) → is_rational stage ≡ true → peaked_after stage b used s ≡ s) → Eases stage (a ∷ b ∷ rest) rest
+unfolding used_from
+eases_none stage a b rest same_a same_b part quiet_a quiet_b = record {
+  used = part;
+  peak = λ s typed p.
+      (let first = typed_parts stage a (b ∷ rest) typed in
+      let second = typed_parts stage b rest (subst (λ (n : Stage). are_typed n (b ∷ rest) ≡ true) same_a first.2) in
+      let one = peaked_after stage a (used_before b (used_from rest)) s in
+      let two = peaked_after stage b (used_from rest) one in
+      let q = next_positive stage a (used_before b (used_from rest)) s p in
+      let along = (narrows_same stage rest).peak s two (subst (λ (n : Stage). are_typed n rest ≡ true) same_b second.2) p
+          (next_positive stage b (used_from rest) one q)
+          (λ r. subst (λ (t : Peaked). Below (used_from rest) s t)
+          (sym (quiet_b one (used_from rest) r ∙ quiet_a s (used_before b (used_from rest)) r)) (below_itself (used_from rest) s)) in
+      let last = subst (λ (n : Stage). peak_from n rest two ≤ peak_from stage (b ∷ rest) one) same_b (tail_peak stage b rest one) in
+      let first_tail = subst (λ (n : Stage). peak_from n (b ∷ rest) one ≤ peak_from stage (a ∷ b ∷ rest) s) same_a
+          (tail_peak stage a (b ∷ rest) s) in
+      most_up (2 ^ 32) (peak_from stage rest s) (peak_from stage (b ∷ rest) one) (peak_from stage (a ∷ b ∷ rest) s)
+      (most_up (2 ^ 32) (peak_from stage rest s) (peak_from stage rest two) (peak_from stage (b ∷ rest) one) along last) first_tail);
+}
+
+-- one for three, where no fractions are left
+pub eases_three : (stage : Stage) (a b c g : Op) (rest : List Op)
+    → stage_after stage g ≡ stage_after (stage_after (stage_after stage a) b) c
+    → (is_rational (stage_after (stage_after (stage_after stage a) b) c) ≡ true → ⊥)
+    → IsPart (used_before g (used_from rest)) (used_before a (used_before b (used_before c (used_from rest))))
+    → Eases stage (a ∷ b ∷ c ∷ rest) (g ∷ rest)
+unfolding used_from peak_from
+eases_three stage a b c g rest is whole part = record {
+  used = λ typed. part;
+  peak = λ s typed p.
+      (let next = stage_after stage a in
+      let later = stage_after next b in
+      let last = stage_after later c in
+      let used = used_from rest in
+      let first = typed_parts stage a (b ∷ c ∷ rest) typed in
+      let second = typed_parts next b (c ∷ rest) first.2 in
+      let third = typed_parts later c rest second.2 in
+      let one = peaked_after stage a (used_before b (used_before c used)) s in
+      let two = peaked_after next b (used_before c used) one in
+      let three = peaked_after later c used two in
+      let q = next_positive stage a (used_before b (used_before c used)) s p in
+      let q2 = next_positive next b (used_before c used) one q in
+      most_up (2 ^ 32) (peak_from stage (g ∷ rest) s) (max (if is_rational last then three.peak else 0) (peak_from last rest three))
+      (peak_from stage (a ∷ b ∷ c ∷ rest) s)
+      (given_peak stage last g rest s three is third.2 p (next_positive later c used two q2) (λ r. absurd (whole r)))
+      (up_three (peak_from later (c ∷ rest) two) (peak_from next (b ∷ c ∷ rest) one) (peak_from stage (a ∷ b ∷ c ∷ rest) s)
+      (tail_peak next b (c ∷ rest) one) (tail_peak stage a (b ∷ c ∷ rest) s)));
+}
+  where
+    up_three : (x y z : ℕ) → x ≤ y → y ≤ z → x ≤ z
+    up_three x y z h k = omega (arith, h, k)
+
+-- ---- operations on fractions, which leave fractions
+pub after_fractions : (stage : Stage) (op : Op) (used : List Bool) (s : Peaked) → is_rational stage ≡ true
+    → peaked_after stage op used s ≡ fractions_after op used s
+unfolding peaked_after width_after
+after_fractions stage op used s r =
+    ap (λ (b : Bool). peaked (if b then fractions_width op s.width else whole_width (bits_at stage)) (if b then fractions_peak op used s
+    else 2 ^ bits_at stage - 1)) r
+
+pub drops_fractions : (stage : Stage) (op : Op) (rest : List Op) → stage_after stage op ≡ stage
+    → IsPart (used_from rest) (used_before op (used_from rest))
+    → ((s : Peaked) → Below (used_from rest) s (fractions_after op (used_from rest) s)) → Eases stage (op ∷ rest) rest
+drops_fractions stage op rest same part below =
+    eases_dropped stage op rest (λ typed. same) (λ typed. part)
+    (λ s r. subst (λ (t : Peaked). Below (used_from rest) s t) (sym (after_fractions stage op (used_from rest) s r)) (below s))
+
+pub one_fractions : (stage : Stage) (a g : Op) (rest : List Op) → stage_after stage g ≡ stage → stage_after stage a ≡ stage
+    → (are_typed stage (a ∷ rest) ≡ true → IsPart (used_before g (used_from rest)) (used_before a (used_from rest)))
+    → ((s : Peaked) → Below (used_from rest) (fractions_after g (used_from rest) s) (fractions_after a (used_from rest) s))
+    → Eases stage (a ∷ rest) (g ∷ rest)
+one_fractions stage a g rest same_g same_a part below =
+    let used = used_from rest in
+    eases_one stage a g rest (same_g ∙ sym same_a) part
+    (λ s typed rational.
+    (let r : is_rational stage ≡ true = sym (ap is_rational same_a) ∙ rational in
+    subst (λ (t : Peaked). Below used t (peaked_after stage a used s)) (sym (after_fractions stage g used s r))
+    (subst (λ (t : Peaked). Below used (fractions_after g used s) t) (sym (after_fractions stage a used s r)) (below s))))
+
+pub two_fractions : (stage : Stage) (a b g : Op) (rest : List Op) → stage_after stage g ≡ stage → stage_after stage a ≡ stage
+    → stage_after stage b ≡ stage
+    → (are_typed stage (a ∷ b ∷ rest) ≡ true → IsPart (used_before g (used_from rest)) (used_before a (used_before b (used_from rest))))
+    → ((s : Peaked) → are_typed stage (a ∷ b ∷ rest) ≡ true → 0 < s.width.denominator → Below (used_from rest) (fractions_after g (used_from rest) s)
+        (fractions_after b (used_from rest) (fractions_after a (used_before b (used_from rest)) s)))
+    → Eases stage (a ∷ b ∷ rest) (g ∷ rest)
+two_fractions stage a b g rest same_g same_a same_b part below =
+    let used = used_from rest in
+    let before = used_before b (used_from rest) in
+    eases_two stage a b g rest (λ typed. same_g ∙ sym (ap (λ (n : Stage). stage_after n b) same_a ∙ same_b)) part
+    (λ s typed p rational.
+    (let r : is_rational stage ≡ true = sym (ap is_rational (ap (λ (n : Stage). stage_after n b) same_a ∙ same_b)) ∙ rational in
+    let one : peaked_after stage a before s ≡ fractions_after a before s = after_fractions stage a before s r in
+    let two : peaked_after (stage_after stage a) b used (peaked_after stage a before s) ≡ fractions_after b used (fractions_after a before s) =
+        ap (λ (n : Stage). peaked_after n b used (peaked_after stage a before s)) same_a ∙ after_fractions stage b used (peaked_after stage a before s) r
+        ∙ ap (fractions_after b used) one in
+    subst (λ (t : Peaked). Below used t (peaked_after (stage_after stage a) b used (peaked_after stage a before s)))
+    (sym (after_fractions stage g used s r))
+    (subst (λ (t : Peaked). Below used (fractions_after g used s) t) (sym two) (below s typed p))))
