@@ -26,3 +26,7 @@ pub mod PeakSteps
 pub mod PeakFronts
 pub mod PeakTidy
 pub mod PeakPasses
+pub mod PeakTrims
+pub mod PeakResets
+pub mod PeakJoins
+pub mod PeakLaws

@@ -22,7 +22,7 @@ use Rattle.op_range.proofs.Capping.{over_least, with_least}
 pub divides_on : (a b c : ℕ) → a ∣ b → b ∣ c → a ∣ c
 divides_on a b c h k = dvd_trans a h k
 
-quotient_positive : (g d : ℕ) → g ∣ d → 0 < d → 0 < d / g
+pub quotient_positive : (g d : ℕ) → g ∣ d → 0 < d → 0 < d / g
 quotient_positive g d h p = pos_of_dvd_of_pos (subst (λ (m : ℕ). d / g ∣ m) (div-mul_cancel g h) (dvd-mul_right (d / g) g)) p
 
 -- ---- the least common multiple
@@ -66,7 +66,7 @@ size_scaled e f x h =
     omega (arith, ap (λ q. unsigned_abs x.numerator * q) is)
 
 -- ---- denominators of lists
-one_divides : (m : ℕ) → 1 ∣ m
+pub one_divides : (m : ℕ) → 1 ∣ m
 one_divides m = let one : 1 * m ≡ m = omega arith in subst (λ (k : ℕ). 1 ∣ k) one (dvd-mul_right 1 m)
 
 over_multiple : (e : ℕ) (xs : List ℚ) → e ∣ denominator_over e xs

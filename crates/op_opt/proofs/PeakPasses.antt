@@ -68,7 +68,7 @@ pub by_change : (stage : Stage) (ops : List Op) (made change : Change) → Some 
 by_change stage ops made change is h = subst (λ (c : Change). Eases stage ops (changed ops c)) (same_Some made change is) h
 
 -- ---- Swizzle
-taken_index : (from : List ℕ) (used : List Bool) (i j : ℕ) → i < 4 → j < 4 → is_used used i ≡ true → slice_index from i ≡ j
+pub taken_index : (from : List ℕ) (used : List Bool) (i j : ℕ) → i < 4 → j < 4 → is_used used i ≡ true → slice_index from i ≡ j
     → is_used (used_before (Swizzle from) used) j ≡ true
 unfolding used_before
 taken_index from used i j below inside u is =
@@ -76,7 +76,7 @@ taken_index from used i j below inside u is =
     ∙ any_from (λ k. is_used used k && nat_eq (slice_index from k) j) i below (and_from _ _ u (eq-eqb (slice_index from i) j is))
 
 -- what holds of each value that is used before a Swizzle
-index_part : (from more : List ℕ) (used before : List Bool)
+pub index_part : (from more : List ℕ) (used before : List Bool)
     → ((j : ℕ) → j < 4 → is_used used j ≡ true → slice_index from j < 4 → is_used before (slice_index from j) ≡ true)
     → IsPart (used_before (Swizzle from) used) before
 unfolding used_before
@@ -182,7 +182,7 @@ join_shifts_easing stage ranges (LeftShift a ∷ RightShift b ∷ rest) change i
     two_shifts stage (LeftShift a) (RightShift b) (shift_between a b) rest change (left_shift a) (right_shift b) (between a b _) c.1
 join_shifts_easing stage ranges _ change is = absurd (none-some change is)
 
-quiet : (stage : Stage) (op : Op) (used : List Bool) (s : Peaked) → fractions_after op used s ≡ s → is_rational stage ≡ true
+pub quiet : (stage : Stage) (op : Op) (used : List Bool) (s : Peaked) → fractions_after op used s ≡ s → is_rational stage ≡ true
     → peaked_after stage op used s ≡ s
 quiet stage op used s is r = after_fractions stage op used s r ∙ is
 

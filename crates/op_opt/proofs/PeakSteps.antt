@@ -114,7 +114,7 @@ term_below e row v w f j h = (elim (takes row j) as (λ t. takes row j ≡ t →
   | false ↦ λ t. term_zero (size_over e (fraction_in row j)) (size_in v j) f (size_in w j) (no_size e (fraction_in row j) (taken_or_zero row j t))
 ]) refl
 
-sum_scaled : (a b c d x p q r s y f : ℕ) → a * f ≤ p → b * f ≤ q → c * f ≤ r → d * f ≤ s → x * f ≤ y
+pub sum_scaled : (a b c d x p q r s y f : ℕ) → a * f ≤ p → b * f ≤ q → c * f ≤ r → d * f ≤ s → x * f ≤ y
     → (a + b + c + d + x) * f ≤ p + q + r + s + y
 sum_scaled a b c d x p q r s y f h0 h1 h2 h3 h4 = omega (arith, h0, h1, h2, h3, h4)
 
