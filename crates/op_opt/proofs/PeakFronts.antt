@@ -122,7 +122,7 @@ narrows_behind stage op ops after h = record {
   peak = λ s t typed p q b.
       (let parts = typed_parts stage op ops typed in
       let next = step_below stage op (used_from after) (used_from ops) s t parts.0 parts.1 p q (h.used parts.2)
-          (λ r. subst (λ (u : List Bool). Below u s t) (used_of op ops) (b r)) in
+      (λ r. subst (λ (u : List Bool). Below u s t) (used_of op ops) (b r)) in
       let new = peaked_after stage op (used_from after) s in
       let old = peaked_after stage op (used_from ops) t in
       let after_old = next_positive stage op (used_from ops) t q in
@@ -176,7 +176,7 @@ eases_dropped stage op rest same part below = record {
       let parts = typed_parts stage op rest typed in
       let after = peaked_after stage op (used_from rest) s in
       let along = (narrows_same stage rest).peak s after (subst (λ (n : Stage). are_typed n rest ≡ true) is parts.2) p
-          (next_positive stage op (used_from rest) s p) (below s) in
+      (next_positive stage op (used_from rest) s p) (below s) in
       most_up (2 ^ 32) (peak_from stage rest s) (peak_from stage rest after) (peak_from stage (op ∷ rest) s) along
       (subst (λ (n : Stage). peak_from n rest after ≤ peak_from stage (op ∷ rest) s) is (tail_peak stage op rest s)));
 }
@@ -200,7 +200,7 @@ given_peak stage last g rest s t is typed p q below =
 pub eases_one : (stage : Stage) (a g : Op) (rest : List Op) → stage_after stage g ≡ stage_after stage a
     → (are_typed stage (a ∷ rest) ≡ true → IsPart (used_before g (used_from rest)) (used_before a (used_from rest)))
     → ((s : Peaked) → are_typed stage (a ∷ rest) ≡ true → is_rational (stage_after stage a) ≡ true
-        → Below (used_from rest) (peaked_after stage g (used_from rest) s) (peaked_after stage a (used_from rest) s))
+    → Below (used_from rest) (peaked_after stage g (used_from rest) s) (peaked_after stage a (used_from rest) s))
     → Eases stage (a ∷ rest) (g ∷ rest)
 unfolding used_from peak_from
 eases_one stage a g rest is part below = record {
@@ -213,8 +213,8 @@ eases_one stage a g rest is part below = record {
 pub eases_two : (stage : Stage) (a b g : Op) (rest : List Op) → (are_typed stage (a ∷ b ∷ rest) ≡ true → stage_after stage g ≡ stage_after (stage_after stage a) b)
     → (are_typed stage (a ∷ b ∷ rest) ≡ true → IsPart (used_before g (used_from rest)) (used_before a (used_before b (used_from rest))))
     → ((s : Peaked) → are_typed stage (a ∷ b ∷ rest) ≡ true → 0 < s.width.denominator → is_rational (stage_after (stage_after stage a) b) ≡ true
-        → Below (used_from rest) (peaked_after stage g (used_from rest) s)
-            (peaked_after (stage_after stage a) b (used_from rest) (peaked_after stage a (used_before b (used_from rest)) s)))
+    → Below (used_from rest) (peaked_after stage g (used_from rest) s)
+    (peaked_after (stage_after stage a) b (used_from rest) (peaked_after stage a (used_before b (used_from rest)) s)))
     → Eases stage (a ∷ b ∷ rest) (g ∷ rest)
 unfolding used_from peak_from
 eases_two stage a b g rest is part below = record {
@@ -248,12 +248,12 @@ eases_none stage a b rest same_a same_b part quiet_a quiet_b = record {
       let two = peaked_after stage b (used_from rest) one in
       let q = next_positive stage a (used_before b (used_from rest)) s p in
       let along = (narrows_same stage rest).peak s two (subst (λ (n : Stage). are_typed n rest ≡ true) same_b second.2) p
-          (next_positive stage b (used_from rest) one q)
-          (λ r. subst (λ (t : Peaked). Below (used_from rest) s t)
-          (sym (quiet_b one (used_from rest) r ∙ quiet_a s (used_before b (used_from rest)) r)) (below_itself (used_from rest) s)) in
+      (next_positive stage b (used_from rest) one q)
+      (λ r. subst (λ (t : Peaked). Below (used_from rest) s t)
+      (sym (quiet_b one (used_from rest) r ∙ quiet_a s (used_before b (used_from rest)) r)) (below_itself (used_from rest) s)) in
       let last = subst (λ (n : Stage). peak_from n rest two ≤ peak_from stage (b ∷ rest) one) same_b (tail_peak stage b rest one) in
       let first_tail = subst (λ (n : Stage). peak_from n (b ∷ rest) one ≤ peak_from stage (a ∷ b ∷ rest) s) same_a
-          (tail_peak stage a (b ∷ rest) s) in
+      (tail_peak stage a (b ∷ rest) s) in
       most_up (2 ^ 32) (peak_from stage rest s) (peak_from stage (b ∷ rest) one) (peak_from stage (a ∷ b ∷ rest) s)
       (most_up (2 ^ 32) (peak_from stage rest s) (peak_from stage rest two) (peak_from stage (b ∷ rest) one) along last) first_tail);
 }
@@ -321,7 +321,7 @@ pub two_fractions : (stage : Stage) (a b g : Op) (rest : List Op) → stage_afte
     → stage_after stage b ≡ stage
     → (are_typed stage (a ∷ b ∷ rest) ≡ true → IsPart (used_before g (used_from rest)) (used_before a (used_before b (used_from rest))))
     → ((s : Peaked) → are_typed stage (a ∷ b ∷ rest) ≡ true → 0 < s.width.denominator → Below (used_from rest) (fractions_after g (used_from rest) s)
-        (fractions_after b (used_from rest) (fractions_after a (used_before b (used_from rest)) s)))
+    (fractions_after b (used_from rest) (fractions_after a (used_before b (used_from rest)) s)))
     → Eases stage (a ∷ b ∷ rest) (g ∷ rest)
 two_fractions stage a b g rest same_g same_a same_b part below =
     let used = used_from rest in
@@ -331,8 +331,8 @@ two_fractions stage a b g rest same_g same_a same_b part below =
     (let r : is_rational stage ≡ true = sym (ap is_rational (ap (λ (n : Stage). stage_after n b) same_a ∙ same_b)) ∙ rational in
     let one : peaked_after stage a before s ≡ fractions_after a before s = after_fractions stage a before s r in
     let two : peaked_after (stage_after stage a) b used (peaked_after stage a before s) ≡ fractions_after b used (fractions_after a before s) =
-        ap (λ (n : Stage). peaked_after n b used (peaked_after stage a before s)) same_a ∙ after_fractions stage b used (peaked_after stage a before s) r
-        ∙ ap (fractions_after b used) one in
+    ap (λ (n : Stage). peaked_after n b used (peaked_after stage a before s)) same_a ∙ after_fractions stage b used (peaked_after stage a before s) r
+    ∙ ap (fractions_after b used) one in
     subst (λ (t : Peaked). Below used t (peaked_after (stage_after stage a) b used (peaked_after stage a before s)))
     (sym (after_fractions stage g used s r))
     (subst (λ (t : Peaked). Below used (fractions_after g used s) t) (sym two) (below s typed p))))

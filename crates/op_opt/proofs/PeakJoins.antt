@@ -1,11 +1,11 @@
 -- Two linear maps as one do not raise the peak.
-use Rattle.std.proofs.Common.{◌≡◌, ℕ, zero, suc, ◌+◌, ◌*◌, ◌/◌, ◌<◌, ◌≤◌, Bool, true, false, not, ◌&&◌, ◌||◌, if◌then◌else◌, List, [], ◌∷◌, ℤ, pos, ◌+ℤ◌, ◌*ℤ◌}
+use Rattle.std.proofs.Common.{◌≡◌, ℕ, zero, suc, ◌+◌, ◌*◌, ◌/◌, ◌<◌, ◌≤◌, Bool, true, false, not, ◌&&◌, ◌||◌, if◌then◌else◌, List, [], ◌∷◌, ℤ, pos, ◌+ℤ◌}
 use Rattle.std.proofs.Common.{nat_eq, max, subst, refl, sym, ◌∙◌, ap, arith}
-use Rattle.std.specs.Prelude.{Option, Some, None, unsigned_abs}
+use Rattle.std.specs.Prelude.{Some, unsigned_abs}
 use Rattle.std.proofs.lemmas.Int.{ints, unsigned_abs-mul}
-use Rattle.std.proofs.lemmas.Option.{same_Some, none-some, option_and_then_some}
-use Rattle.std.proofs.lemmas.Bool.{and_from, and_parts, both_ways}
-use Rattle.std.proofs.Math.Nat.{div-mul_cancel, mul-le-mul_right, mul-le-mul_left, le_of_mul-le-mul_right, pos_of_dvd_of_pos, dvd-mul_right}
+use Rattle.std.proofs.lemmas.Option.{none-some, option_and_then_some}
+use Rattle.std.proofs.lemmas.Bool.{and_parts}
+use Rattle.std.proofs.Math.Nat.{div-mul_cancel, mul-le-mul_right, mul-le-mul_left}
 use Prim.Native.Nat.{◌∣◌}
 use native.Mathlib.Nat.{eq_of_mul-eq-mul_right, mul-le-mul}
 use Rattle.frac_math.specs.Fraction.{ℚ, nat, over, equal_ℚ, ◌+ℚ◌, ◌*ℚ◌}
@@ -21,20 +21,18 @@ use Rattle.op_list.specs.Values.{four, fraction_in}
 use Rattle.op_list.specs.Apply.{row_of}
 use Rattle.op_list.proofs.Exact.{checked_product-exact, all_four-exact}
 use Rattle.op_list.proofs.Four.{get_or-four}
-use Rattle.op_range.specs.declared.range.ValueRange.{ValueRange}
 use Rattle.op_range.specs.declared.width.Width.{Width}
 use Rattle.op_range.specs.FractionBounds.{HasBound, bound, bound_of}
 use Rattle.op_range.specs.Used.{is_used, any_of_four, takes, used_before, used_from}
-use Rattle.op_range.specs.Width.{rows_denominator, size_over, width_of, size_in, term_size, row_size, fractions_width}
-use Rattle.op_range.proofs.AnyOfFour.{any_from}
-use Rattle.op_range.proofs.FractionBounds.{itself_bound, raised, wider, product_bounded, nat_bound}
+use Rattle.op_range.specs.Width.{rows_denominator, size_over, width_of, size_in, row_size, fractions_width}
+use Rattle.op_range.proofs.FractionBounds.{itself_bound, raised, product_bounded, nat_bound}
 use Rattle.op_opt.specs.declared.change.Change.{Change}
 use Rattle.op_opt.specs.Changes.{changed, taking}
 use Rattle.op_opt.specs.JoinMaps.{diagonal, column_of, joined_row, joined_rows, join_maps}
 use Rattle.op_opt.specs.Peak.{Peaked, greatest_of_four, fractions_peak}
 use Rattle.op_opt.proofs.JoiningMaps.{exact_dot, exact_row, row_exact}
 use Rattle.op_opt.proofs.PeakMultiples.{rows_divide, rows_each, rows_positive, size_scaled, one_divides, quotient_positive}
-use Rattle.op_opt.proofs.PeakSteps.{IsPart, Below, peaked, below_of, fractions_after, max_scaled, greatest_scaled, if_both, taken_used, taken_or_zero}
+use Rattle.op_opt.proofs.PeakSteps.{IsPart, Below, peaked, below_of, fractions_after, max_scaled, greatest_scaled, taken_used, taken_or_zero}
 use Rattle.op_opt.proofs.PeakSteps.{sum_scaled}
 use Rattle.op_opt.proofs.PeakFronts.{Eases, any_found, part_itself, two_fractions}
 use Rattle.op_opt.proofs.PeakTidy.{greatest_at}
@@ -84,7 +82,7 @@ bound_divides x m n h = denominator_divides x h.numerator m h.stands
 bound_size : (x : ℚ) (m n : ℕ) → HasBound x (bound m n) → size_over m x ≤ n
 bound_size x m n h =
     let is = cancelled x.denominator (m / x.denominator) (unsigned_abs x.numerator) (unsigned_abs h.numerator) m (denominator_positive x)
-        (div-mul_cancel x.denominator (bound_divides x m n h)) (crossed_sizes x h.numerator m h.stands) in
+    (div-mul_cancel x.denominator (bound_divides x m n h)) (crossed_sizes x h.numerator m h.stands) in
     omega (arith, is, h.most)
 
 -- ---- a map, as its coefficients stand over one number
@@ -210,13 +208,13 @@ dot_bound : (row : List ℚ) (rows : List (List ℚ)) (j e f : ℕ) (b a : ℕ �
 unfolding exact_dot
 dot_bound row rows j e f b a positive left right =
     let term = λ (k : ℕ) (below : k < 4). product_bounded (fraction_in row k) (fraction_in (row_of rows k) j) (bound f (b k)) (bound e (a k))
-        (left k below) (right k below) in
+    (left k below) (right k below) in
     added _ _ (f * e) _ _ (added _ _ (f * e) _ _ (added _ _ (f * e) _ _ (added _ _ (f * e) _ _ (zero_bound (f * e) positive)
     (term 0 (omega arith))) (term 1 (omega arith))) (term 2 (omega arith))) (term 3 (omega arith))
 
 regrouped : (b0 b1 b2 b3 b4 e n0 n1 n2 n3 d p0 p1 p2 p3 p4 q0 q1 q2 q3 q4 r0 r1 r2 r3 r4 s0 s1 s2 s3 s4 : ℕ)
     → (0 + b0 * p0 + b1 * q0 + b2 * r0 + b3 * s0) * n0 + (0 + b0 * p1 + b1 * q1 + b2 * r1 + b3 * s1) * n1 + (0 + b0 * p2 + b1 * q2 + b2 * r2 + b3 * s2) * n2 + (0 + b0 * p3 + b1 * q3 + b2 * r3 + b3 * s3) * n3 + (0 + b0 * p4 + b1 * q4 + b2 * r4 + b3 * s4 + b4 * e) * d
-      ≡ b0 * (p0 * n0 + p1 * n1 + p2 * n2 + p3 * n3 + p4 * d) + b1 * (q0 * n0 + q1 * n1 + q2 * n2 + q3 * n3 + q4 * d) + b2 * (r0 * n0 + r1 * n1 + r2 * n2 + r3 * n3 + r4 * d) + b3 * (s0 * n0 + s1 * n1 + s2 * n2 + s3 * n3 + s4 * d) + b4 * (d * e)
+    ≡ b0 * (p0 * n0 + p1 * n1 + p2 * n2 + p3 * n3 + p4 * d) + b1 * (q0 * n0 + q1 * n1 + q2 * n2 + q3 * n3 + q4 * d) + b2 * (r0 * n0 + r1 * n1 + r2 * n2 + r3 * n3 + r4 * d) + b3 * (s0 * n0 + s1 * n1 + s2 * n2 + s3 * n3 + s4 * d) + b4 * (d * e)
 regrouped b0 b1 b2 b3 b4 e n0 n1 n2 n3 d p0 p1 p2 p3 p4 q0 q1 q2 q3 q4 r0 r1 r2 r3 r4 s0 s1 s2 s3 s4 = omega arith
 
 pub joined_exact : (first second joined : List (List ℚ)) → joined_rows first second ≡ Some joined
@@ -235,7 +233,7 @@ row_bounds first second p q e f a b over_a over_b i j below inside =
 
 last_bound : (first second : List (List ℚ)) (p q : Op) (e f : ℕ) (a b : ℕ → ℕ → ℕ) → IsOver first p e a → IsOver second q f b → (i : ℕ) → i < 4
     → HasBound (exact_dot (row_of second i) (column_of first 4) +ℚ fraction_in (row_of second i) 4)
-        (bound (f * e) (dot_size (b i) (λ k. a k 4) + b i 4 * e))
+    (bound (f * e) (dot_size (b i) (λ k. a k 4) + b i 4 * e))
 last_bound first second p q e f a b over_a over_b i below =
     added _ _ (f * e) _ _ (row_bounds first second p q e f a b over_a over_b i 4 below (omega arith))
     (raised (fraction_in (row_of second i) 4) f (b i 4) e (over_b.bounds i 4 below (omega arith)) over_a.positive)
@@ -274,15 +272,15 @@ exact_size first second p q e f a b over_a over_b c g is w i below each =
     let row = exact_row (row_of second i) first in
     let bounds = λ (j : ℕ) (inside : j < 5). row_bounds first second p q e f a b over_a over_b i j below inside in
     let most = sum_scaled _ _ _ _ (size_over c (fraction_in row 4) * w.denominator) _ _ _ _ _ g
-        (size_below c g (f * e) _ (fraction_in row 0) is (each 0) (bounds 0 (omega arith)) (size_in w 0))
-        (size_below c g (f * e) _ (fraction_in row 1) is (each 1) (bounds 1 (omega arith)) (size_in w 1))
-        (size_below c g (f * e) _ (fraction_in row 2) is (each 2) (bounds 2 (omega arith)) (size_in w 2))
-        (size_below c g (f * e) _ (fraction_in row 3) is (each 3) (bounds 3 (omega arith)) (size_in w 3))
-        (size_below c g (f * e) _ (fraction_in row 4) is (each 4) (last_bound first second p q e f a b over_a over_b i below) w.denominator) in
+    (size_below c g (f * e) _ (fraction_in row 0) is (each 0) (bounds 0 (omega arith)) (size_in w 0))
+    (size_below c g (f * e) _ (fraction_in row 1) is (each 1) (bounds 1 (omega arith)) (size_in w 1))
+    (size_below c g (f * e) _ (fraction_in row 2) is (each 2) (bounds 2 (omega arith)) (size_in w 2))
+    (size_below c g (f * e) _ (fraction_in row 3) is (each 3) (bounds 3 (omega arith)) (size_in w 3))
+    (size_below c g (f * e) _ (fraction_in row 4) is (each 4) (last_bound first second p q e f a b over_a over_b i below) w.denominator) in
     let mid = fractions_width p w in
     let same = regrouped (b i 0) (b i 1) (b i 2) (b i 3) (b i 4) e (size_in w 0) (size_in w 1) (size_in w 2) (size_in w 3) w.denominator
-        (a 0 0) (a 0 1) (a 0 2) (a 0 3) (a 0 4) (a 1 0) (a 1 1) (a 1 2) (a 1 3) (a 1 4)
-        (a 2 0) (a 2 1) (a 2 2) (a 2 3) (a 2 4) (a 3 0) (a 3 1) (a 3 2) (a 3 3) (a 3 4) in
+    (a 0 0) (a 0 1) (a 0 2) (a 0 3) (a 0 4) (a 1 0) (a 1 1) (a 1 2) (a 1 3) (a 1 4)
+    (a 2 0) (a 2 1) (a 2 2) (a 2 3) (a 2 4) (a 3 0) (a 3 1) (a 3 2) (a 3 3) (a 3 4) in
     let one = λ (k : ℕ) (here : k < 4). ap (λ x. b i k * x) (over_a.width w k here) in
     let last = ap (λ x. b i 4 * x) (over_a.denominator w) in
     let whole = over_b.width mid i below in
@@ -318,7 +316,7 @@ dot_zero row rows j h =
     let q = or_none (test 0 || test 1) (test 2) p.0 in
     let r = or_none (test 0) (test 1) q.0 in
     let none = λ (k : ℕ) (t : test k ≡ false). zero_product (fraction_in row k) (fraction_in (row_of rows k) j) (takes row k)
-        (takes (row_of rows k) j) (taken_or_zero row k) (taken_or_zero (row_of rows k) j) t in
+    (takes (row_of rows k) j) (taken_or_zero row k) (taken_or_zero (row_of rows k) j) t in
     sum_zero _ _ (sum_zero _ _ (sum_zero _ _ (sum_zero _ _ refl (none 0 r.0)) (none 1 r.1)) (none 2 q.1)) (none 3 p.1)
 
 dot_taken : (row : List ℚ) (rows : List (List ℚ)) (j : ℕ) → not (equal_ℚ (exact_dot row (column_of rows j)) (nat 0)) ≡ true
@@ -348,7 +346,7 @@ joined_part first second joined p q e f a b used over_a over_b is = record {
       (λ i inside u.
       (let s = and_parts (is_used used i) (takes (row_of joined i) j) u in
       let row_is : row_of joined i ≡ exact_row (row_of second i) first =
-          sym (ap (λ (rows : List (List ℚ)). row_of rows i) is) ∙ get_or-four (λ k. exact_row (row_of second k) first) i [] inside in
+      sym (ap (λ (rows : List (List ℚ)). row_of rows i) is) ∙ get_or-four (λ k. exact_row (row_of second k) first) i [] inside in
       any_found (λ k. takes (row_of second i) k && takes (row_of first k) j)
       (row_taken (row_of second i) first j below (sym (ap (λ r. takes r j) row_is) ∙ s.1))
       (λ k here v. (let z = and_parts (takes (row_of second i) k) (takes (row_of first k) j) v in
@@ -390,11 +388,11 @@ peaks k c g m n is h = omega (arith, ap (λ x. k * x) is, h)
 exact_below : (first second : List (List ℚ)) (p q : Op) (e f : ℕ) (a b : ℕ → ℕ → ℕ) (used before : List Bool) (s : Peaked)
     → IsOver first p e a → IsOver second q f b → IsCounted p q e f used before s
     → Below used (peaked (width_of (s.width.denominator * rows_denominator (four (λ i. exact_row (row_of second i) first)))
-        (λ k. row_size (rows_denominator (four (λ i. exact_row (row_of second i) first))) (row_of (four (λ i. exact_row (row_of second i) first)) k) s.width))
-        (max (s.peak * rows_denominator (four (λ i. exact_row (row_of second i) first)))
-        (greatest_of_four (λ k. if is_used used k then row_size (rows_denominator (four (λ i. exact_row (row_of second i) first)))
-        (row_of (four (λ i. exact_row (row_of second i) first)) k) s.width else 0))))
-      (fractions_after q used (fractions_after p before s))
+    (λ k. row_size (rows_denominator (four (λ i. exact_row (row_of second i) first))) (row_of (four (λ i. exact_row (row_of second i) first)) k) s.width))
+    (max (s.peak * rows_denominator (four (λ i. exact_row (row_of second i) first)))
+    (greatest_of_four (λ k. if is_used used k then row_size (rows_denominator (four (λ i. exact_row (row_of second i) first)))
+    (row_of (four (λ i. exact_row (row_of second i) first)) k) s.width else 0))))
+    (fractions_after q used (fractions_after p before s))
 exact_below first second p q e f a b used before s over_a over_b counted =
     let line = λ (i : ℕ). exact_row (row_of second i) first in
     let rows = four line in
@@ -403,13 +401,13 @@ exact_below first second p q e f a b used before s over_a over_b counted =
     let g = m / c in
     let w = s.width in
     let is : c * g ≡ m = turned c g m (div-mul_cancel c (rows_divide rows m (product_positive f e over_b.positive over_a.positive)
-        (all_over first second p q e f a b over_a over_b))) in
+    (all_over first second p q e f a b over_a over_b))) in
     let most = (fractions_after q used (fractions_after p before s)).peak in
     let row_is = λ (i : ℕ) (below : i < 4). get_or-four line i [] below in
     let size = λ (i : ℕ) (below : i < 4).
-        subst (λ (r : List ℚ). row_size c r w * g ≤ size_in (fractions_width q (fractions_width p w)) i) (sym (row_is i below))
-        (exact_size first second p q e f a b over_a over_b c g is w i below
-        (λ j. subst (λ (r : List ℚ). (fraction_in r j).denominator ∣ c) (row_is i below) (rows_each rows i j))) in
+    subst (λ (r : List ℚ). row_size c r w * g ≤ size_in (fractions_width q (fractions_width p w)) i) (sym (row_is i below))
+    (exact_size first second p q e f a b over_a over_b c g is w i below
+    (λ j. subst (λ (r : List ℚ). (fraction_in r j).denominator ∣ c) (row_is i below) (rows_each rows i j))) in
     record {
       ratio = g;
       denominator = denominators w.denominator c g f e (fractions_width p w).denominator
@@ -427,8 +425,8 @@ exact_below first second p q e f a b used before s over_a over_b counted =
 joined_below : (first second joined : List (List ℚ)) (p q : Op) (e f : ℕ) (a b : ℕ → ℕ → ℕ) (used before : List Bool) (s : Peaked)
     → IsOver first p e a → IsOver second q f b → four (λ i. exact_row (row_of second i) first) ≡ joined → IsCounted p q e f used before s
     → Below used (peaked (width_of (s.width.denominator * rows_denominator joined) (λ k. row_size (rows_denominator joined) (row_of joined k) s.width))
-        (max (s.peak * rows_denominator joined) (greatest_of_four (λ k. if is_used used k then row_size (rows_denominator joined) (row_of joined k) s.width else 0))))
-      (fractions_after q used (fractions_after p before s))
+    (max (s.peak * rows_denominator joined) (greatest_of_four (λ k. if is_used used k then row_size (rows_denominator joined) (row_of joined k) s.width else 0))))
+    (fractions_after q used (fractions_after p before s))
 joined_below first second joined p q e f a b used before s over_a over_b is counted =
     subst (λ (rows : List (List ℚ)). Below used (peaked (width_of (s.width.denominator * rows_denominator rows)
     (λ k. row_size (rows_denominator rows) (row_of rows k) s.width))
@@ -437,7 +435,7 @@ joined_below first second joined p q e f a b used before s over_a over_b is coun
 
 linear_is : (rows : List (List ℚ)) (used : List Bool) (s : Peaked) → fractions_after (Linear rows) used s
     ≡ peaked (width_of (s.width.denominator * rows_denominator rows) (λ k. row_size (rows_denominator rows) (row_of rows k) s.width))
-        (max (s.peak * rows_denominator rows) (greatest_of_four (λ k. if is_used used k then row_size (rows_denominator rows) (row_of rows k) s.width else 0)))
+    (max (s.peak * rows_denominator rows) (greatest_of_four (λ k. if is_used used k then row_size (rows_denominator rows) (row_of rows k) s.width else 0)))
 unfolding fractions_width fractions_peak
 linear_is rows used s = refl
 
@@ -526,7 +524,7 @@ scales_below : (x y z : ℚ) (used before : List Bool) (s : Peaked) → y *ℚ x
 unfolding fractions_width fractions_peak
 scales_below x y z used before s is =
     let h = subst (λ (c : ℚ). HasBound c (bound (y.denominator * x.denominator) (unsigned_abs y.numerator * unsigned_abs x.numerator))) is
-        (product_bounded y x (bound_of y) (bound_of x) (itself_bound y) (itself_bound x)) in
+    (product_bounded y x (bound_of y) (bound_of x) (itself_bound y) (itself_bound x)) in
     let m = y.denominator * x.denominator in
     let g = m / z.denominator in
     let whole : g * z.denominator ≡ m = div-mul_cancel z.denominator (bound_divides z m _ h) in

@@ -1,11 +1,11 @@
 -- The normal list of a whole list is at most as wide as the list's peak.
-use Rattle.std.proofs.Common.{◌≡◌, ℕ, zero, suc, ◌^◌, ◌<◌, ◌≤◌, Bool, true, false, if◌then◌else◌, List, [], ◌∷◌, max, subst, refl, sym, ◌∙◌, ap, arith}
+use Rattle.std.proofs.Common.{◌≡◌, ℕ, zero, suc, ◌^◌, ◌<◌, ◌≤◌, Bool, true, false, if◌then◌else◌, List, [], ◌∷◌, max, subst, refl, arith}
 use Rattle.std.specs.Prelude.{Option, Some, None}
 use Rattle.std.proofs.lemmas.Option.{none-some}
 use Rattle.op_list.specs.declared.types.Stage.{Stage}
 use Rattle.op_list.specs.declared.types.Stage.TheVariants.{Start}
 use Rattle.op_list.specs.declared.op.Op.{Op}
-use Rattle.op_list.specs.Typing.{stage_after, are_typed, IsOpList, ends_with_write}
+use Rattle.op_list.specs.Typing.{stage_after, are_typed}
 use Rattle.op_list.proofs.Exact.{option_map_some}
 use Rattle.op_range.specs.declared.range.ValueRange.{ValueRange}
 use Rattle.op_range.specs.Ranges.{ranges_after, start_ranges}
@@ -18,7 +18,7 @@ use Rattle.op_opt.specs.OfFour.{or_else}
 use Rattle.op_opt.specs.Passes.{change_at, passes}
 use Rattle.op_opt.specs.Normal.{first_of_passes, step, next_or, normal_within, normal}
 use Rattle.op_opt.specs.Weight.{weight}
-use Rattle.op_opt.specs.Peak.{Peaked, start_peaked, peak_from, peak, NormalIsNarrow}
+use Rattle.op_opt.specs.Peak.{start_peaked, peak_from, peak, NormalIsNarrow}
 use Rattle.op_opt.proofs.Walk.{step_improves}
 use Rattle.op_opt.proofs.Normals.{normal_reached}
 use Rattle.op_opt.proofs.PeakFronts.{Narrows, eases_narrow, narrows_behind}
@@ -110,7 +110,7 @@ width_below : (ops : List Op) → ((i : ℕ) → i < 4 → own_width_from Start 
 unfolding width own_width peak
 width_below ops own =
     let each = λ (i : ℕ) (below : i < 4). own_most (has_fractions Start ops) (own_width_from Start ops (whole_width 0) i)
-        (peak_from Start ops start_peaked) (own i below) in
+    (peak_from Start ops start_peaked) (own i below) in
     four_most _ _ _ _ (max (2 ^ 32) (peak_from Start ops start_peaked)) (each 0 (omega arith)) (each 1 (omega arith)) (each 2 (omega arith))
     (each 3 (omega arith))
 

@@ -1,14 +1,14 @@
 -- Least common multiples, and sizes over a multiple of a denominator.
-use Rattle.std.proofs.Common.{◌≡◌, ℕ, zero, suc, ◌+◌, ◌*◌, ◌/◌, ◌<◌, ◌≤◌, List, [], ◌∷◌, max, subst, refl, sym, ◌∙◌, ap, arith}
+use Rattle.std.proofs.Common.{◌≡◌, ℕ, zero, suc, ◌*◌, ◌/◌, ◌<◌, List, [], ◌∷◌, subst, refl, sym, ap, arith}
 use Rattle.std.specs.Prelude.{Option, Some, None, unsigned_abs}
-use Rattle.std.proofs.Math.Nat.{div-mul_cancel, dvd-mul_right, dvd-mul_left, pos_of_dvd_of_pos, mul-le-mul_right, mul-le-mul_left}
+use Rattle.std.proofs.Math.Nat.{div-mul_cancel, dvd-mul_right, dvd-mul_left, pos_of_dvd_of_pos}
 use Rattle.std.proofs.lemmas.Nat.Gcd.{dvd_refl, dvd_trans}
 use Rattle.std.proofs.lemmas.Option.{same_Some, none-some}
 use Prim.Native.Nat.{◌∣◌}
 use native.Mathlib.Nat.{eq_of_mul-eq-mul_right}
 use Rattle.frac_math.specs.Gcd.{gcd}
 use Rattle.frac_math.specs.LowestTerms.{gcd-is, gcd-quotients}
-use Rattle.frac_math.specs.Fraction.{ℚ, nat}
+use Rattle.frac_math.specs.Fraction.{ℚ}
 use Rattle.frac_math.proofs.Euclid.{divides_other}
 use Rattle.frac_math.proofs.FractionRing.{denominator_positive}
 use Rattle.op_list.specs.Values.{fraction_in, entry}

@@ -1,62 +1,39 @@
 -- Each pass but the join of maps does not raise the peak where it applies.
-use Rattle.std.proofs.Common.{◌≡◌, ℕ, zero, suc, ◌+◌, ◌-◌, ◌*◌, ◌/◌, ◌^◌, ◌<◌, ◌≤◌, Bool, true, false, not, ◌&&◌, ◌||◌, if◌then◌else◌, List, [], ◌∷◌}
-use Rattle.std.proofs.Common.{All, length, nat_eq, nat_lt, eq-eqb, eqb-true, lt-ltb, max, sum, subst, refl, sym, ◌∙◌, ap, arith}
-use Rattle.std.specs.Prelude.{Option, Some, None, slice_index, unsigned_abs}
+use Rattle.std.proofs.Common.{◌≡◌, ℕ, zero, suc, ◌+◌, ◌-◌, ◌*◌, ◌<◌, ◌≤◌, Bool, true, false, not, ◌&&◌, if◌then◌else◌, List, [], ◌∷◌}
+use Rattle.std.proofs.Common.{All, length, nat_eq, nat_lt, eq-eqb, eqb-true, lt-ltb, sum, subst, refl, sym, ◌∙◌, ap, arith}
+use Rattle.std.specs.Prelude.{Some, slice_index}
 use Rattle.std.specs.Str.{bytes_eq}
 use Rattle.std.proofs.lemmas.Slice.Eq.{bytes_eq-Decides}
 use Rattle.std.proofs.lemmas.Option.{same_Some, none-some, option_and_then_some}
 use Rattle.std.proofs.lemmas.Bool.{and_from, and_parts, both_ways}
-use Rattle.std.proofs.Math.Nat.{div-mul_cancel, mul-le-mul_right}
-use Prim.Native.Nat.{◌∣◌}
-use Rattle.frac_math.specs.Fraction.{ℚ, nat, equal_ℚ}
-use Rattle.frac_math.proofs.FractionRing.{equal_is}
-use Rattle.op_list.specs.declared.types.PixType.{PixType}
 use Rattle.op_list.specs.declared.types.PixType.TheVariants.{U8, U16, U32, Rat}
 use Rattle.op_list.specs.declared.types.Stage.{Stage}
 use Rattle.op_list.specs.declared.types.Stage.TheVariants.{Start, Typed, Ended}
 use Rattle.op_list.specs.declared.op.Op.{Op}
-use Rattle.op_list.specs.declared.op.Op.TheVariants.{Read, Write, SwapBytes, Unpack, Pack, Clear, LeftShift, RightShift, Swizzle}
-use Rattle.op_list.specs.declared.op.Op.TheVariants.{Convert, Dither, Linear, Scale, Min, Max}
-use Rattle.op_list.specs.Types.{bits_at, is_rational, is_whole, is_whole_type, is_same, has_type}
-use Rattle.op_list.specs.Typing.{may_follow, are_good, stage_after, are_typed}
-use Rattle.op_list.specs.Values.{four, fraction_in, entry}
-use Rattle.op_list.specs.Apply.{row_of}
-use Rattle.op_list.specs.Identity.{identity_coefficient, is_identity_row}
+use Rattle.op_list.specs.declared.op.Op.TheVariants.{SwapBytes, Unpack, Pack, LeftShift, RightShift, Swizzle}
+use Rattle.op_list.specs.Types.{bits_at, is_rational, is_whole}
+use Rattle.op_list.specs.Typing.{may_follow, stage_after, are_typed}
+use Rattle.op_list.specs.Values.{four}
 use Rattle.op_list.proofs.Applied.{swizzle_lanes}
 use Rattle.op_list.proofs.Four.{get_or-four, sum_four}
 use Rattle.op_list.proofs.Typed.{typed_parts}
 use Rattle.op_range.specs.declared.range.ValueRange.{ValueRange}
-use Rattle.op_range.specs.declared.width.Width.{Width}
-use Rattle.op_range.specs.FractionBounds.{factor}
-use Rattle.op_range.specs.Ranges.{range_in}
-use Rattle.op_range.specs.Used.{is_used, any_of_four, is_missing, takes, used_before, used_from}
-use Rattle.op_range.specs.Width.{rows_denominator, entries_denominator, size_over, width_of, size_in, term_size, row_size}
-use Rattle.op_range.specs.Width.{cleared_size, limited_size, fractions_width}
+use Rattle.op_range.specs.Used.{is_used, any_of_four, used_before, used_from}
+use Rattle.op_range.specs.Width.{width_of, size_in}
+use Rattle.op_range.specs.Width.{fractions_width}
 use Rattle.op_range.proofs.AnyOfFour.{any_from}
 use Rattle.op_range.proofs.UsedSteps.{index_below}
 use Rattle.op_opt.specs.declared.change.Change.{Change}
 use Rattle.op_opt.specs.Changes.{Rule, changed, taking}
-use Rattle.op_opt.specs.Entries.{without, is_given}
-use Rattle.op_opt.specs.OfFour.{all_of_four, lowest}
-use Rattle.op_opt.specs.DropIdle.{are_missing, is_idle, drop_idle}
 use Rattle.op_opt.specs.JoinSwizzles.{join_swizzles}
 use Rattle.op_opt.specs.JoinShifts.{shift_between, sum_below, used_have_room, join_shifts}
 use Rattle.op_opt.specs.CancelSwaps.{cancel_swaps}
-use Rattle.op_opt.specs.TrimClear.{trim_clear}
-use Rattle.op_opt.specs.TrimClamp.{is_known_at_most, trim_clamp}
-use Rattle.op_opt.specs.DropDither.{lead_to_floors, drop_dither}
-use Rattle.op_opt.specs.SkipFraction.{skip_fraction}
-use Rattle.op_opt.specs.ExpandBytes.{is_expanding_row, expands_used, goes_through_fractions, expand_bytes}
-use Rattle.op_opt.specs.ResetUnused.{identity_row, reset_row, reset_index, reset_unused}
 use Rattle.op_opt.specs.CancelPacking.{uses_first_alone, fill, cancel_packing}
-use Rattle.op_opt.specs.Peak.{Peaked, greatest_of_four, given_size, fractions_peak, peaked_after}
-use Rattle.op_opt.proofs.PassedTests.{chosen, if_used, all_at, from_not}
-use Rattle.op_opt.proofs.Dropping.{lowest_passes, other_entry, dropped_entry, by_place, one_unused}
-use Rattle.op_opt.proofs.PeakMultiples.{entries_divide, entries_each, entries_positive, rows_divide, rows_each, rows_positive, size_scaled}
-use Rattle.op_opt.proofs.PeakSteps.{IsPart, Below, peaked, below_of, below_itself, fractions_after, times, max_scaled, greatest_scaled, if_both}
-use Rattle.op_opt.proofs.PeakTidy.{one_size}
-use Rattle.op_opt.proofs.PeakFronts.{Eases, any_found, four_part, part_itself, after_fractions, drops_fractions, one_fractions, two_fractions}
-use Rattle.op_opt.proofs.PeakFronts.{eases_dropped, eases_one, eases_two, eases_none, eases_three}
+use Rattle.op_opt.specs.Peak.{Peaked, fractions_peak, peaked_after}
+use Rattle.op_opt.proofs.PassedTests.{chosen, from_not}
+use Rattle.op_opt.proofs.PeakSteps.{IsPart, Below, below_of, below_itself, fractions_after}
+use Rattle.op_opt.proofs.PeakFronts.{Eases, any_found, part_itself, after_fractions, two_fractions}
+use Rattle.op_opt.proofs.PeakFronts.{eases_none}
 
 -- a rule that does not raise the peak where it applies
 abbrev pub IsEasing : Rule → Type 0
@@ -95,7 +72,7 @@ typed_lanes stage from rest h = swizzle_lanes stage from (typed_parts stage (Swi
 
 swizzles_part : (first second : List ℕ) (used : List Bool) → All (λ i. i < 4) second
     → IsPart (used_before (Swizzle (four (λ i. slice_index first (slice_index second i)))) used)
-        (used_before (Swizzle first) (used_before (Swizzle second) used))
+    (used_before (Swizzle first) (used_before (Swizzle second) used))
 swizzles_part first second used good =
     let both = λ (i : ℕ). slice_index first (slice_index second i) in
     index_part (four both) [] used (used_before (Swizzle first) (used_before (Swizzle second) used))
@@ -107,7 +84,7 @@ swizzles_part first second used good =
 
 swizzles_below : (first second : List ℕ) (used before : List Bool) (s : Peaked) → All (λ i. i < 4) second
     → Below used (fractions_after (Swizzle (four (λ i. slice_index first (slice_index second i)))) used s)
-        (fractions_after (Swizzle second) used (fractions_after (Swizzle first) before s))
+    (fractions_after (Swizzle second) used (fractions_after (Swizzle first) before s))
 unfolding fractions_width fractions_peak
 swizzles_below first second used before s good =
     let both = λ (i : ℕ). slice_index first (slice_index second i) in
@@ -136,7 +113,7 @@ join_swizzles_easing stage ranges _ change is = absurd (none-some change is)
 shifts_eased : (stage : Stage) (a b g : Op) (rest : List Op) (change : Change) → stage_after stage g ≡ stage → stage_after stage a ≡ stage
     → stage_after stage b ≡ stage → IsPart (used_before g (used_from rest)) (used_before a (used_before b (used_from rest)))
     → ((s : Peaked) → Below (used_from rest) (fractions_after g (used_from rest) s)
-        (fractions_after b (used_from rest) (fractions_after a (used_before b (used_from rest)) s)))
+    (fractions_after b (used_from rest) (fractions_after a (used_before b (used_from rest)) s)))
     → taking 2 (Some g) ≡ Some change → Eases stage (a ∷ b ∷ rest) (changed (a ∷ b ∷ rest) change)
 shifts_eased stage a b g rest change sg sa sb part below is =
     by_change stage (a ∷ b ∷ rest) _ change is (two_fractions stage a b g rest sg sa sb (λ typed. part) (λ s typed p. below s))
@@ -231,8 +208,8 @@ packing_part fields used size some alone = record {
       let first : is_used used 0 ≡ true = subst (λ (k : ℕ). is_used used k ≡ true) zero_is u in
       let packed = four (λ k. is_used used 0 && nat_lt 0 (slice_index fields k)) in
       let any : any_of_four (λ j. is_used packed j && nat_lt 0 (slice_index fields j)) ≡ true =
-          some_field fields size some (λ j inside t. any_from (λ k. is_used packed k && nat_lt 0 (slice_index fields k)) j inside
-          (and_from _ _ (get_or-four (λ k. is_used used 0 && nat_lt 0 (slice_index fields k)) j false inside ∙ and_from _ _ first t) t)) in
+      some_field fields size some (λ j inside t. any_from (λ k. is_used packed k && nat_lt 0 (slice_index fields k)) j inside
+      (and_from _ _ (get_or-four (λ k. is_used used 0 && nat_lt 0 (slice_index fields k)) j false inside ∙ and_from _ _ first t) t)) in
       subst (λ (k : ℕ). is_used (used_before (Unpack fields) packed) k ≡ true) (sym zero_is) (and_from (nat_eq 0 0) _ refl any));
 }
 

@@ -1,55 +1,40 @@
 -- Entries, rows and indices of values that do not count are trimmed: the peak does not rise.
-use Rattle.std.proofs.Common.{◌≡◌, ℕ, zero, suc, ◌+◌, ◌*◌, ◌/◌, ◌^◌, ◌<◌, ◌≤◌, Bool, true, false, not, ◌&&◌, ◌||◌, if◌then◌else◌, List, [], ◌∷◌}
-use Rattle.std.proofs.Common.{nat_eq, eq-eqb, eqb-true, max, subst, refl, sym, ◌∙◌, ap, arith}
-use Rattle.std.specs.Prelude.{Option, Some, None, slice_index, unsigned_abs}
-use Rattle.std.proofs.lemmas.Option.{same_Some, none-some, option_and_then_some}
+use Rattle.std.proofs.Common.{◌≡◌, ℕ, zero, suc, ◌*◌, ◌/◌, ◌<◌, ◌≤◌, Bool, true, false, not, ◌&&◌, ◌||◌, if◌then◌else◌, List, [], ◌∷◌}
+use Rattle.std.proofs.Common.{nat_eq, eq-eqb, max, subst, refl, sym, ◌∙◌, ap, arith}
+use Rattle.std.specs.Prelude.{Option, Some, None, slice_index}
+use Rattle.std.proofs.lemmas.Option.{none-some, option_and_then_some}
 use Rattle.std.proofs.lemmas.Bool.{and_from, and_parts}
-use Rattle.std.proofs.Math.Nat.{div-mul_cancel, mul-le-mul_right}
+use Rattle.std.proofs.Math.Nat.{div-mul_cancel}
 use Prim.Native.Nat.{◌∣◌}
-use Rattle.frac_math.specs.Fraction.{ℚ, nat, equal_ℚ}
-use Rattle.frac_math.proofs.FractionRing.{equal_is}
-use Rattle.op_list.specs.declared.types.PixType.{PixType}
-use Rattle.op_list.specs.declared.types.PixType.TheVariants.{U8, U16, U32, Rat}
+use Rattle.frac_math.specs.Fraction.{ℚ, nat}
 use Rattle.op_list.specs.declared.types.Stage.{Stage}
-use Rattle.op_list.specs.declared.types.Stage.TheVariants.{Start, Typed, Ended}
 use Rattle.op_list.specs.declared.op.Op.{Op}
-use Rattle.op_list.specs.declared.op.Op.TheVariants.{Clear, LeftShift, RightShift, Swizzle, Convert, Dither, Linear, Scale, Min, Max}
-use Rattle.op_list.specs.Types.{is_rational, is_whole, is_whole_type, is_same, has_type}
+use Rattle.op_list.specs.declared.op.Op.TheVariants.{Clear, Swizzle, Linear, Min, Max}
 use Rattle.op_list.specs.Typing.{stage_after}
-use Rattle.op_list.specs.Values.{four, fraction_in, entry}
+use Rattle.op_list.specs.Values.{fraction_in, entry}
 use Rattle.op_list.specs.Apply.{row_of}
-use Rattle.op_list.specs.Identity.{identity_coefficient, is_identity_row}
+use Rattle.op_list.specs.Identity.{is_identity_row}
 use Rattle.op_list.proofs.Four.{get_or-four}
-use Rattle.op_range.specs.declared.range.ValueRange.{ValueRange}
 use Rattle.op_range.specs.declared.width.Width.{Width}
-use Rattle.op_range.specs.FractionBounds.{factor}
 use Rattle.op_range.specs.Ranges.{range_in}
 use Rattle.op_range.specs.Used.{is_used, any_of_four, is_missing, takes, used_before, used_from}
-use Rattle.op_range.specs.Width.{rows_denominator, entries_denominator, size_over, width_of, size_in, term_size, row_size}
+use Rattle.op_range.specs.Width.{rows_denominator, entries_denominator, size_over, width_of, size_in, row_size}
 use Rattle.op_range.specs.Width.{cleared_size, limited_size, fractions_width}
 use Rattle.op_range.proofs.AnyOfFour.{any_from}
-use Rattle.op_opt.specs.declared.change.Change.{Change}
-use Rattle.op_opt.specs.Changes.{changed, taking}
 use Rattle.op_opt.specs.Entries.{without, is_given}
-use Rattle.op_opt.specs.OfFour.{all_of_four, lowest}
-use Rattle.op_opt.specs.DropIdle.{are_missing, is_idle, drop_idle}
+use Rattle.op_opt.specs.OfFour.{lowest}
 use Rattle.op_opt.specs.TrimClear.{trim_clear}
 use Rattle.op_opt.specs.TrimClamp.{is_known_at_most, trim_clamp}
-use Rattle.op_opt.specs.DropDither.{lead_to_floors, drop_dither}
-use Rattle.op_opt.specs.SkipFraction.{skip_fraction}
-use Rattle.op_opt.specs.ExpandBytes.{expanding_coefficient, is_expanding_row, expands_used, goes_through_fractions, expand_bytes}
 use Rattle.op_opt.specs.ResetUnused.{identity_row, reset_row, reset_index, reset_unused}
-use Rattle.op_opt.specs.Peak.{Peaked, greatest_of_four, given_size, fractions_peak, peaked_after}
-use Rattle.op_opt.proofs.PassedTests.{chosen, if_used, all_at, from_not}
+use Rattle.op_opt.specs.Peak.{Peaked, greatest_of_four, given_size, fractions_peak}
+use Rattle.op_opt.proofs.PassedTests.{from_not}
 use Rattle.op_opt.proofs.Dropping.{lowest_passes, other_entry, dropped_entry, by_place, one_unused}
 use Rattle.op_opt.proofs.PeakMultiples.{entries_divide, entries_each, entries_positive, rows_divide, rows_each, rows_positive, size_scaled}
 use Rattle.op_opt.proofs.PeakMultiples.{one_divides}
-use Rattle.op_opt.proofs.PeakSteps.{IsPart, Below, peaked, below_of, below_itself, fractions_after, max_scaled, greatest_scaled, if_both}
-use Rattle.op_opt.proofs.PeakSteps.{taken_used, sum_scaled}
-use Rattle.op_opt.proofs.PeakTidy.{one_size}
-use Rattle.op_opt.proofs.PeakFronts.{Eases, any_found, four_part, part_itself, after_fractions, drops_fractions, one_fractions}
-use Rattle.op_opt.proofs.PeakFronts.{eases_dropped, eases_two, eases_three}
-use Rattle.op_opt.proofs.PeakPasses.{IsEasing, by_change, taken_index, index_part, quiet}
+use Rattle.op_opt.proofs.PeakSteps.{Below, peaked, below_of, max_scaled, greatest_scaled, if_both}
+use Rattle.op_opt.proofs.PeakSteps.{sum_scaled}
+use Rattle.op_opt.proofs.PeakFronts.{Eases, any_found, four_part, part_itself, one_fractions}
+use Rattle.op_opt.proofs.PeakPasses.{IsEasing, by_change, taken_index, index_part}
 
 -- ---- numbers over a divisor
 quotient_of : (e n : ℕ) → e ∣ n → e * (n / e) ≡ n
@@ -115,12 +100,12 @@ none_given e f m d given (Some y) h = absurd (none-some y (sym h))
 
 entries_trimmed : (entries : List (Option ℚ)) (k : ℕ) (used : List Bool) (s : Peaked) (g h : ℕ → ℕ) → k < 4
     → ((i : ℕ) → i < 4 → is_used used i ≡ true
-        → g i * (entries_denominator entries / entries_denominator (without entries k)) ≤ h i)
+    → g i * (entries_denominator entries / entries_denominator (without entries k)) ≤ h i)
     → Below used (peaked (width_of (s.width.denominator * entries_denominator (without entries k)) g)
-          (max (s.peak * entries_denominator (without entries k))
-          (greatest_of_four (λ i. given_size (entries_denominator (without entries k)) s.width.denominator (entry (without entries k) i)))))
-        (peaked (width_of (s.width.denominator * entries_denominator entries) h) (max (s.peak * entries_denominator entries)
-          (greatest_of_four (λ i. given_size (entries_denominator entries) s.width.denominator (entry entries i)))))
+    (max (s.peak * entries_denominator (without entries k))
+    (greatest_of_four (λ i. given_size (entries_denominator (without entries k)) s.width.denominator (entry (without entries k) i)))))
+    (peaked (width_of (s.width.denominator * entries_denominator entries) h) (max (s.peak * entries_denominator entries)
+    (greatest_of_four (λ i. given_size (entries_denominator entries) s.width.denominator (entry entries i)))))
 entries_trimmed entries k used s g h inside each =
     let e = entries_denominator (without entries k) in
     let m = entries_denominator entries in
@@ -159,8 +144,8 @@ clear_trimmed stage entries k rest inside free =
 
 limit_up : (entries : List (Option ℚ)) (k i d n : ℕ) → k < 4 → i < 4
     → limited_size (entries_denominator (without entries k)) d (entry (without entries k) i) n
-        * (entries_denominator entries / entries_denominator (without entries k))
-      ≤ limited_size (entries_denominator entries) d (entry entries i) n
+    * (entries_denominator entries / entries_denominator (without entries k))
+    ≤ limited_size (entries_denominator entries) d (entry entries i) n
 limit_up entries k i d n inside below =
     let e = entries_denominator (without entries k) in
     let m = entries_denominator entries in
@@ -267,7 +252,7 @@ rows_reset stage rows k rest free =
     let f = m / e in
     let is = quotient_of e m (rows_divide new m (rows_positive rows) (reset_over rows k)) in
     let row_is = λ (i : ℕ) (below : i < 4) (u : is_used used i ≡ true). by_place {P = row_of new i ≡ row_of rows i} i k
-        (λ same. absurd (one_unused (is_used used) i k u free same)) (other_row rows k i below) in
+    (λ same. absurd (one_unused (is_used used) i k u free same)) (other_row rows k i below) in
     one_fractions stage (Linear rows) (Linear new) rest refl refl
     (λ typed. four_part (λ i. any_of_four (λ j. is_used used j && takes (row_of new j) i)) (λ i. any_of_four (λ j. is_used used j && takes (row_of rows j) i))
     (λ i below t. any_found (λ j. is_used used j && takes (row_of new j) i) t
@@ -275,8 +260,8 @@ rows_reset stage rows k rest free =
     any_from (λ l. is_used used l && takes (row_of rows l) i) j inside
     (and_from _ _ p.0 (sym (ap (λ r. takes r i) (row_is j inside p.0)) ∙ p.1))))))
     (λ s. (let up = λ (i : ℕ) (below : i < 4) (u : is_used used i ≡ true).
-        subst (λ (r : List ℚ). row_size e (row_of new i) s.width * f ≤ row_size m r s.width) (row_is i below u)
-        (row_up e f m (row_of new i) s.width is (rows_each new i)) in
+    subst (λ (r : List ℚ). row_size e (row_of new i) s.width * f ≤ row_size m r s.width) (row_is i below u)
+    (row_up e f m (row_of new i) s.width is (rows_each new i)) in
     below_of used f (s.width.denominator * e) (s.width.denominator * m) (λ i. row_size e (row_of new i) s.width)
     (λ i. row_size m (row_of rows i) s.width) _ _ (up_same s.width.denominator e f m is) up
     (max_scaled (s.peak * e) _ f (s.peak * m) _ (up_times s.peak e f m is)
@@ -295,7 +280,7 @@ indices_reset stage from k rest free =
     let used = used_from rest in
     let new = reset_index from k in
     let index_is = λ (i : ℕ) (below : i < 4) (u : is_used used i ≡ true). by_place {P = slice_index new i ≡ slice_index from i} i k
-        (λ same. absurd (one_unused (is_used used) i k u free same)) (other_index from k i below) in
+    (λ same. absurd (one_unused (is_used used) i k u free same)) (other_index from k i below) in
     one_fractions stage (Swizzle from) (Swizzle new) rest refl refl
     (λ typed. index_part new [] used (used_before (Swizzle from) used)
     (λ j below u inside. taken_index from used j (slice_index new j) below inside u (sym (index_is j below u))))

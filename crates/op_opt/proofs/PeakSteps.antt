@@ -1,8 +1,8 @@
 -- One state that is not above another, on the used values; and each operation keeps it so.
-use Rattle.std.proofs.Common.{◌≡◌, ℕ, zero, suc, ◌+◌, ◌-◌, ◌*◌, ◌/◌, ◌^◌, ◌<◌, ◌≤◌, Bool, true, false, not, ◌&&◌, if◌then◌else◌, List, [], ◌∷◌}
-use Rattle.std.proofs.Common.{All, nat_eq, nat_lt, eq-eqb, ltb-true, max, subst, refl, sym, ◌∙◌, ap, arith}
+use Rattle.std.proofs.Common.{◌≡◌, ℕ, ◌+◌, ◌-◌, ◌*◌, ◌/◌, ◌^◌, ◌<◌, ◌≤◌, Bool, true, false, not, ◌&&◌, if◌then◌else◌, List}
+use Rattle.std.proofs.Common.{All, nat_eq, nat_lt, eq-eqb, ltb-true, max, subst, refl, ◌∙◌, ap, arith}
 use Rattle.std.specs.Prelude.{Option, Some, None, slice_index, unsigned_abs}
-use Rattle.std.proofs.lemmas.Bool.{and_from, and_parts}
+use Rattle.std.proofs.lemmas.Bool.{and_from}
 use Rattle.std.proofs.Math.Nat.{div-mul_cancel, dvd-mul_right, mul-le-mul_right, mul-le-mul_left, zero-mul}
 use Prim.Native.Nat.{◌∣◌}
 use native.Mathlib.Nat.{eq_of_mul-eq-mul_right}
@@ -15,14 +15,14 @@ use Rattle.op_list.specs.declared.op.Op.TheVariants.{Read, Write, SwapBytes, Unp
 use Rattle.op_list.specs.declared.op.Op.TheVariants.{Convert, Dither, Linear, Scale, Min, Max}
 use Rattle.op_list.specs.Types.{bits_at, is_rational}
 use Rattle.op_list.specs.Typing.{may_follow, are_good, stage_after}
-use Rattle.op_list.specs.Values.{four, fraction_in, entry}
+use Rattle.op_list.specs.Values.{fraction_in, entry}
 use Rattle.op_list.specs.Apply.{row_of}
 use Rattle.op_list.proofs.Applied.{swizzle_lanes, whole_not_rational}
 use Rattle.op_list.proofs.Four.{get_or-four}
 use Rattle.op_range.specs.declared.width.Width.{Width}
 use Rattle.op_range.specs.FractionBounds.{factor}
 use Rattle.op_range.specs.Used.{is_used, any_of_four, is_missing, takes, used_before}
-use Rattle.op_range.specs.Width.{common_multiple, rows_denominator, entries_denominator, size_over, width_of, size_in, term_size, row_size}
+use Rattle.op_range.specs.Width.{rows_denominator, entries_denominator, size_over, width_of, size_in, term_size, row_size}
 use Rattle.op_range.specs.Width.{cleared_size, limited_size, fractions_width, whole_width, width_after}
 use Rattle.op_range.proofs.FractionBounds.{factor_positive}
 use Rattle.op_range.proofs.AnyOfFour.{any_from}
@@ -144,8 +144,8 @@ linear_below rows less used s t part b =
     let e = rows_denominator rows in
     let f = b.ratio in
     let row = λ (i : ℕ) (below : i < 4) (u : is_used used i ≡ true).
-        row_below e (row_of rows i) s.width t.width f b.denominator
-        (λ j inside taken. b.sizes j inside (taken_used rows used i j below inside u taken)) in
+    row_below e (row_of rows i) s.width t.width f b.denominator
+    (λ j inside taken. b.sizes j inside (taken_used rows used i j below inside u taken)) in
     below_of used f (s.width.denominator * e) (t.width.denominator * e) (λ i. row_size e (row_of rows i) s.width)
     (λ i. row_size e (row_of rows i) t.width) _ _
     (times_same s.width.denominator f t.width.denominator e b.denominator) row
@@ -177,7 +177,7 @@ ratio_of d e p f some more positive is =
     let regroup : d * (f * factor e p) ≡ total = omega (arith, ap (λ x. x * factor e p) is) in
     let over : d ∣ total = subst (λ (k : ℕ). d ∣ k) regroup (dvd-mul_right d (f * factor e p)) in
     let into = least_multiple d p total some positive (product_positive e (factor e p) more (factor_positive e p positive)) over
-        (multiple_right e p) in
+    (multiple_right e p) in
     let g = total / (d * factor d p) in
     let back : g * (d * factor d p) ≡ total = div-mul_cancel (d * factor d p) into in
     record {
@@ -225,9 +225,9 @@ entries_below : (entries : List (Option ℚ)) (used : List Bool) (s t : Peaked) 
     → s.width.denominator * f ≡ t.width.denominator → s.peak * f ≤ t.peak
     → ((i : ℕ) → i < 4 → is_used used i ≡ true → g i * f ≤ h i)
     → Below used (peaked (width_of (s.width.denominator * entries_denominator entries) g) (max (s.peak * entries_denominator entries)
-        (greatest_of_four (λ i. given_size (entries_denominator entries) s.width.denominator (entry entries i)))))
-      (peaked (width_of (t.width.denominator * entries_denominator entries) h) (max (t.peak * entries_denominator entries)
-        (greatest_of_four (λ i. given_size (entries_denominator entries) t.width.denominator (entry entries i)))))
+    (greatest_of_four (λ i. given_size (entries_denominator entries) s.width.denominator (entry entries i)))))
+    (peaked (width_of (t.width.denominator * entries_denominator entries) h) (max (t.peak * entries_denominator entries)
+    (greatest_of_four (λ i. given_size (entries_denominator entries) t.width.denominator (entry entries i)))))
 entries_below entries used s t g h f is most each =
     let c = entries_denominator entries in
     below_of used f (s.width.denominator * c) (t.width.denominator * c) g h _ _ (times_same s.width.denominator f t.width.denominator c is) each

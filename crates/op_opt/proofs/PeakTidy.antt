@@ -1,12 +1,12 @@
 -- Where the rows of values that are not used are the identity, no size is above the peak.
 use Rattle.std.proofs.Common.{◌≡◌, ℕ, zero, suc, ◌+◌, ◌-◌, ◌*◌, ◌/◌, ◌^◌, ◌<◌, ◌≤◌, Bool, true, false, not, ◌&&◌, if◌then◌else◌, List, [], ◌∷◌}
-use Rattle.std.proofs.Common.{◌++◌, All, max, subst, refl, sym, ◌∙◌, ap, arith}
-use Rattle.std.specs.Prelude.{Option, Some, None, slice_index, unsigned_abs, nat_eq}
+use Rattle.std.proofs.Common.{◌++◌, max, refl, sym, ◌∙◌, ap, arith}
+use Rattle.std.specs.Prelude.{Option, Some, None, slice_index, unsigned_abs}
 use Rattle.std.specs.Option.{option_and_then}
 use Rattle.std.proofs.lemmas.Option.{none-some}
 use Rattle.std.proofs.lemmas.Bool.{and_from, and_parts}
-use Rattle.std.proofs.Math.Nat.{mul-le-mul_right, mul-le-mul_left, zero-mul}
-use Rattle.frac_math.specs.Fraction.{ℚ, nat, equal_ℚ}
+use Rattle.std.proofs.Math.Nat.{mul-le-mul_right, mul-le-mul_left}
+use Rattle.frac_math.specs.Fraction.{ℚ, nat}
 use Rattle.frac_math.proofs.FractionRing.{equal_is}
 use Rattle.op_list.specs.declared.types.Stage.{Stage}
 use Rattle.op_list.specs.declared.types.Stage.TheVariants.{Start, Typed, Ended}
@@ -17,16 +17,16 @@ use Rattle.op_list.specs.declared.op.Op.TheVariants.{Read, Write, SwapBytes, Unp
 use Rattle.op_list.specs.declared.op.Op.TheVariants.{Convert, Dither, Linear, Scale, Min, Max}
 use Rattle.op_list.specs.Types.{bits_at, is_rational, is_typed, is_whole_type}
 use Rattle.op_list.specs.Typing.{may_follow, are_good, stage_after, are_typed}
-use Rattle.op_list.specs.Values.{four, fraction_in, entry}
+use Rattle.op_list.specs.Values.{fraction_in, entry}
 use Rattle.op_list.specs.Apply.{row_of}
-use Rattle.op_list.specs.Identity.{identity_coefficient, is_identity_row}
+use Rattle.op_list.specs.Identity.{is_identity_row}
 use Rattle.op_list.proofs.Applied.{swizzle_lanes}
 use Rattle.op_list.proofs.Four.{get_or-four}
 use Rattle.op_list.proofs.Typed.{typed_parts}
 use Rattle.op_range.specs.declared.width.Width.{Width}
 use Rattle.op_range.specs.FractionBounds.{factor}
 use Rattle.op_range.specs.Used.{is_used, used_from}
-use Rattle.op_range.specs.Width.{rows_denominator, entries_denominator, size_over, width_of, size_in, term_size, row_size, own_size}
+use Rattle.op_range.specs.Width.{rows_denominator, entries_denominator, size_over, width_of, size_in, row_size, own_size}
 use Rattle.op_range.specs.Width.{cleared_size, limited_size, fractions_width, whole_width, width_after, own_width_from}
 use Rattle.op_range.proofs.UsedSteps.{index_below}
 use Rattle.op_opt.specs.OfFour.{or_else, if_so, lowest}
@@ -152,10 +152,10 @@ row_covered : (e : ℕ) (rows : List (List ℚ)) (used : List Bool) (s : Peaked)
     → row_size e (row_of rows i) s.width ≤ max (s.peak * e) (greatest_of_four (λ j. if is_used used j then row_size e (row_of rows j) s.width else 0))
 row_covered e rows used s i tidy c below = (elim (is_used used i) as (λ b. is_used used i ≡ b
     → row_size e (row_of rows i) s.width ≤ max (s.peak * e) (greatest_of_four (λ j. if is_used used j then row_size e (row_of rows j) s.width else 0))) [
-  | true ↦ λ u. left_most _ _ (s.peak * e) (used_at (is_used used i) (row_size e (row_of rows i) s.width) _ u
-      (greatest_at (λ j. if is_used used j then row_size e (row_of rows j) s.width else 0) i below))
-  | false ↦ λ u. right_most _ _ _ (identity_size e (row_of rows i) s.width s.peak i below (c.sizes i below) (tidy.each i below u))
-]) refl
+      | true ↦ λ u. left_most _ _ (s.peak * e) (used_at (is_used used i) (row_size e (row_of rows i) s.width) _ u
+          (greatest_at (λ j. if is_used used j then row_size e (row_of rows j) s.width else 0) i below))
+      | false ↦ λ u. right_most _ _ _ (identity_size e (row_of rows i) s.width s.peak i below (c.sizes i below) (tidy.each i below u))
+    ]) refl
   where
     left_most : (a g k : ℕ) → a ≤ g → a ≤ max k g
     left_most a g k h = omega (arith, h)

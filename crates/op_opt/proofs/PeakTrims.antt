@@ -1,54 +1,44 @@
 -- Idle operations that are dropped, entries, rows and indices that are trimmed, and conversions: none raises the peak.
-use Rattle.std.proofs.Common.{◌≡◌, ℕ, zero, suc, ◌+◌, ◌*◌, ◌/◌, ◌^◌, ◌<◌, ◌≤◌, Bool, true, false, not, ◌&&◌, ◌||◌, if◌then◌else◌, List, [], ◌∷◌}
+use Rattle.std.proofs.Common.{◌≡◌, ℕ, zero, suc, ◌+◌, ◌*◌, ◌^◌, ◌<◌, ◌≤◌, Bool, true, false, not, ◌&&◌, ◌||◌, List, [], ◌∷◌}
 use Rattle.std.proofs.Common.{nat_eq, eqb-true, max, subst, refl, sym, ◌∙◌, ap, arith}
-use Rattle.std.specs.Prelude.{Option, Some, None, slice_index, unsigned_abs}
-use Rattle.std.proofs.lemmas.Option.{same_Some, none-some, option_and_then_some}
+use Rattle.std.specs.Prelude.{Option, Some, None, slice_index}
+use Rattle.std.proofs.lemmas.Option.{none-some}
 use Rattle.std.proofs.lemmas.Bool.{and_from, and_parts}
-use Rattle.std.proofs.Math.Nat.{div-mul_cancel, mul-le-mul_right}
-use Prim.Native.Nat.{◌∣◌}
 use Rattle.frac_math.specs.Fraction.{ℚ, nat, equal_ℚ}
 use Rattle.frac_math.proofs.FractionRing.{equal_is}
 use Rattle.op_list.specs.declared.types.PixType.{PixType}
 use Rattle.op_list.specs.declared.types.PixType.TheVariants.{U8, U16, U32, Rat}
 use Rattle.op_list.specs.declared.types.Stage.{Stage}
-use Rattle.op_list.specs.declared.types.Stage.TheVariants.{Start, Typed, Ended}
+use Rattle.op_list.specs.declared.types.Stage.TheVariants.{Typed}
 use Rattle.op_list.specs.declared.op.Op.{Op}
 use Rattle.op_list.specs.declared.op.Op.TheVariants.{Clear, LeftShift, RightShift, Swizzle, Convert, Dither, Linear, Scale, Min, Max}
 use Rattle.op_list.specs.Types.{is_rational, is_whole, is_whole_type, is_same, has_type}
 use Rattle.op_list.specs.Typing.{stage_after}
-use Rattle.op_list.specs.Values.{four, fraction_in, entry}
+use Rattle.op_list.specs.Values.{fraction_in, entry}
 use Rattle.op_list.specs.Apply.{row_of}
-use Rattle.op_list.specs.Identity.{identity_coefficient, is_identity_row}
+use Rattle.op_list.specs.Identity.{is_identity_row}
 use Rattle.op_list.proofs.Four.{get_or-four}
-use Rattle.op_range.specs.declared.range.ValueRange.{ValueRange}
 use Rattle.op_range.specs.declared.width.Width.{Width}
 use Rattle.op_range.specs.FractionBounds.{factor}
 use Rattle.op_range.specs.Ranges.{range_in}
-use Rattle.op_range.specs.Used.{is_used, any_of_four, is_missing, takes, used_before, used_from}
+use Rattle.op_range.specs.Used.{is_used, is_missing, takes, used_before, used_from}
 use Rattle.op_range.specs.Width.{rows_denominator, entries_denominator, size_over, width_of, size_in, term_size, row_size}
 use Rattle.op_range.specs.Width.{cleared_size, limited_size, fractions_width}
 use Rattle.op_opt.specs.declared.change.Change.{Change}
 use Rattle.op_opt.specs.Changes.{changed, taking}
-use Rattle.op_opt.specs.Entries.{without, is_given}
-use Rattle.op_opt.specs.OfFour.{all_of_four, lowest}
+use Rattle.op_opt.specs.OfFour.{all_of_four}
 use Rattle.op_opt.specs.DropIdle.{are_missing, is_idle, drop_idle}
-use Rattle.op_opt.specs.TrimClear.{trim_clear}
-use Rattle.op_opt.specs.TrimClamp.{is_known_at_most, trim_clamp}
 use Rattle.op_opt.specs.DropDither.{lead_to_floors, drop_dither}
 use Rattle.op_opt.specs.SkipFraction.{skip_fraction}
-use Rattle.op_opt.specs.ExpandBytes.{expanding_coefficient, is_expanding_row, expands_used, goes_through_fractions, expand_bytes}
-use Rattle.op_opt.specs.ResetUnused.{identity_row, reset_row, reset_index, reset_unused}
-use Rattle.op_opt.specs.Peak.{Peaked, greatest_of_four, given_size, fractions_peak, peaked_after}
-use Rattle.op_opt.proofs.PassedTests.{chosen, if_used, all_at, from_not}
-use Rattle.op_opt.proofs.Dropping.{lowest_passes, other_entry, dropped_entry, by_place, one_unused}
-use Rattle.op_opt.proofs.PeakMultiples.{entries_divide, entries_each, entries_positive, rows_divide, rows_each, rows_positive, size_scaled}
-use Rattle.op_opt.proofs.PeakMultiples.{one_divides}
-use Rattle.op_opt.proofs.PeakSteps.{IsPart, Below, peaked, below_of, below_itself, fractions_after, max_scaled, greatest_scaled, if_both}
-use Rattle.op_opt.proofs.PeakSteps.{taken_used, sum_scaled}
+use Rattle.op_opt.specs.ExpandBytes.{is_expanding_row, expands_used, goes_through_fractions, expand_bytes}
+use Rattle.op_opt.specs.Peak.{Peaked, fractions_peak}
+use Rattle.op_opt.proofs.PassedTests.{chosen, if_used, all_at}
+use Rattle.op_opt.proofs.PeakSteps.{IsPart, Below, peaked, below_itself}
+use Rattle.op_opt.proofs.PeakSteps.{taken_used}
 use Rattle.op_opt.proofs.PeakTidy.{one_size}
-use Rattle.op_opt.proofs.PeakFronts.{Eases, any_found, four_part, part_itself, after_fractions, drops_fractions, one_fractions}
+use Rattle.op_opt.proofs.PeakFronts.{Eases, part_itself, drops_fractions}
 use Rattle.op_opt.proofs.PeakFronts.{eases_dropped, eases_two, eases_three}
-use Rattle.op_opt.proofs.PeakPasses.{IsEasing, by_change, taken_index, index_part, quiet}
+use Rattle.op_opt.proofs.PeakPasses.{IsEasing, by_change, taken_index, quiet}
 
 -- ---- after an operation that is dropped
 below_after : (used : List Bool) (s : Peaked) (f e : ℕ) (h : ℕ → ℕ) (k : ℕ) → s.width.denominator * f ≡ e
@@ -76,8 +66,10 @@ unfolding stage_after used_before fractions_width fractions_peak
 clear_dropped stage entries rest h =
     let missing = λ (i : ℕ) (below : i < 4). all_at (λ j. is_missing (entry entries j)) i below h in
     drops_fractions stage (Clear entries) rest refl
-    (record { each = λ i below u. get_or-four (λ k. is_used (used_from rest) k && is_missing (entry entries k)) i false below
-    ∙ and_from _ _ u (missing i below) })
+    (record {
+      each = λ i below u. get_or-four (λ k. is_used (used_from rest) k && is_missing (entry entries k)) i false below
+          ∙ and_from _ _ u (missing i below);
+    })
     (λ s. below_after (used_from rest) s (entries_denominator entries) (s.width.denominator * entries_denominator entries)
     (λ i. cleared_size (entries_denominator entries) s.width.denominator (entry entries i) (size_in s.width i)) _ refl
     (λ i below u. missing_cleared (entries_denominator entries) s.width.denominator (entry entries i) (size_in s.width i) (missing i below))
@@ -160,7 +152,7 @@ unfolding stage_after fractions_width fractions_peak
 linear_dropped stage rows rest h =
     let used = used_from rest in
     let one = λ (i : ℕ) (below : i < 4) (u : is_used used i ≡ true). one_coefficient (row_of rows i) i below
-        (if_used (is_used used i) _ (all_at (λ j. not (is_used used j) || is_identity_row j (row_of rows j)) i below h) u) in
+    (if_used (is_used used i) _ (all_at (λ j. not (is_used used j) || is_identity_row j (row_of rows j)) i below h) u) in
     let e = rows_denominator rows in
     drops_fractions stage (Linear rows) rest refl
     (record { each = λ i below u. taken_used rows used i i below below u (some_taken (row_of rows i) i (nat 1) (one i below u) one_not_zero) })
@@ -174,7 +166,7 @@ unfolding stage_after fractions_width fractions_peak
 swizzle_dropped stage from rest h =
     let used = used_from rest in
     let same = λ (i : ℕ) (below : i < 4) (u : is_used used i ≡ true). eqb-true (slice_index from i) i
-        (if_used (is_used used i) _ (all_at (λ j. not (is_used used j) || nat_eq (slice_index from j) j) i below h) u) in
+    (if_used (is_used used i) _ (all_at (λ j. not (is_used used j) || nat_eq (slice_index from j) j) i below h) u) in
     drops_fractions stage (Swizzle from) rest refl
     (record { each = λ i below u. taken_index from used i i below below u (same i below u) })
     (λ s. below_after used s 1 s.width.denominator (λ i. size_in s.width (slice_index from i)) s.peak (omega arith)
@@ -288,8 +280,10 @@ expand_bytes_easing stage ranges (Convert by first ∷ Linear rows ∷ Convert t
     let p = and_parts (goes_through_fractions stage by to) (expands_used (used_from rest) rows) c.0 in
     let used = used_from rest in
     expanded stage by to first last (Linear rows) rest change (λ n. refl)
-    (record { each = λ i below u. taken_used rows used i i below below u (some_taken (row_of rows i) i (nat 257)
-    (expanding_is (row_of rows i) i below
-    (if_used (is_used used i) _ (all_at (λ j. not (is_used used j) || is_expanding_row j (row_of rows j)) i below p.1) u)) many_not_zero) })
+    (record {
+      each = λ i below u. taken_used rows used i i below below u (some_taken (row_of rows i) i (nat 257)
+          (expanding_is (row_of rows i) i below
+          (if_used (is_used used i) _ (all_at (λ j. not (is_used used j) || is_expanding_row j (row_of rows j)) i below p.1) u)) many_not_zero);
+    })
     p.0 c.1
 expand_bytes_easing stage ranges _ change is = absurd (none-some change is)
