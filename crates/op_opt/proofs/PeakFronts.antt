@@ -95,13 +95,15 @@ no_more a (suc f) b d e is p h = let more : a * suc f ≡ a * f + a = omega arit
 
 head_below : (r : Bool) (used : List Bool) (s t : Peaked) → 0 < t.width.denominator → (r ≡ true → Below used s t)
     → (if r then s.peak else 0) ≤ (if r then t.peak else 0)
-head_below true used s t p b = let h = b refl in no_more s.peak h.ratio t.peak s.width.denominator t.width.denominator h.denominator p h.peak
+head_below true used s t p b = let h = b refl in no_more s.peak h.ratio t.peak s.width.denominator t.width.denominator h.denominator p
+    h.peak
 head_below false used s t p b = omega arith
 
 both_most : (f a b c d : ℕ) → a ≤ c → b ≤ max f d → max a b ≤ max f (max c d)
 both_most f a b c d h k = omega (arith, h, k)
 
-used_behind : (op : Op) (ops after : List Op) → IsPart (used_from after) (used_from ops) → IsPart (used_from (op ∷ after)) (used_from (op ∷ ops))
+used_behind : (op : Op) (ops after : List Op) → IsPart (used_from after) (used_from ops)
+    → IsPart (used_from (op ∷ after)) (used_from (op ∷ ops))
 unfolding used_from
 used_behind op ops after part = used_part op (used_from after) (used_from ops) part
 
@@ -210,9 +212,11 @@ eases_one stage a g rest is part below = record {
 }
 
 -- one for two
-pub eases_two : (stage : Stage) (a b g : Op) (rest : List Op) → (are_typed stage (a ∷ b ∷ rest) ≡ true → stage_after stage g ≡ stage_after (stage_after stage a) b)
+pub eases_two : (stage : Stage) (a b g : Op) (rest : List Op) → (are_typed stage (a ∷ b ∷ rest) ≡ true
+    → stage_after stage g ≡ stage_after (stage_after stage a) b)
     → (are_typed stage (a ∷ b ∷ rest) ≡ true → IsPart (used_before g (used_from rest)) (used_before a (used_before b (used_from rest))))
-    → ((s : Peaked) → are_typed stage (a ∷ b ∷ rest) ≡ true → 0 < s.width.denominator → is_rational (stage_after (stage_after stage a) b) ≡ true
+    → ((s : Peaked) → are_typed stage (a ∷ b ∷ rest) ≡ true → 0 < s.width.denominator
+        → is_rational (stage_after (stage_after stage a) b) ≡ true
     → Below (used_from rest) (peaked_after stage g (used_from rest) s)
     (peaked_after (stage_after stage a) b (used_from rest) (peaked_after stage a (used_before b (used_from rest)) s)))
     → Eases stage (a ∷ b ∷ rest) (g ∷ rest)
@@ -320,7 +324,8 @@ one_fractions stage a g rest same_g same_a part below =
 pub two_fractions : (stage : Stage) (a b g : Op) (rest : List Op) → stage_after stage g ≡ stage → stage_after stage a ≡ stage
     → stage_after stage b ≡ stage
     → (are_typed stage (a ∷ b ∷ rest) ≡ true → IsPart (used_before g (used_from rest)) (used_before a (used_before b (used_from rest))))
-    → ((s : Peaked) → are_typed stage (a ∷ b ∷ rest) ≡ true → 0 < s.width.denominator → Below (used_from rest) (fractions_after g (used_from rest) s)
+    → ((s : Peaked) → are_typed stage (a ∷ b ∷ rest) ≡ true → 0 < s.width.denominator
+        → Below (used_from rest) (fractions_after g (used_from rest) s)
     (fractions_after b (used_from rest) (fractions_after a (used_before b (used_from rest)) s)))
     → Eases stage (a ∷ b ∷ rest) (g ∷ rest)
 two_fractions stage a b g rest same_g same_a same_b part below =
@@ -330,8 +335,10 @@ two_fractions stage a b g rest same_g same_a same_b part below =
     (λ s typed p rational.
     (let r : is_rational stage ≡ true = sym (ap is_rational (ap (λ (n : Stage). stage_after n b) same_a ∙ same_b)) ∙ rational in
     let one : peaked_after stage a before s ≡ fractions_after a before s = after_fractions stage a before s r in
-    let two : peaked_after (stage_after stage a) b used (peaked_after stage a before s) ≡ fractions_after b used (fractions_after a before s) =
-    ap (λ (n : Stage). peaked_after n b used (peaked_after stage a before s)) same_a ∙ after_fractions stage b used (peaked_after stage a before s) r
+    let two : peaked_after (stage_after stage a) b used (peaked_after stage a before s) ≡ fractions_after b used
+        (fractions_after a before s) =
+    ap (λ (n : Stage). peaked_after n b used (peaked_after stage a before s)) same_a ∙ after_fractions stage b used
+        (peaked_after stage a before s) r
     ∙ ap (fractions_after b used) one in
     subst (λ (t : Peaked). Below used t (peaked_after (stage_after stage a) b used (peaked_after stage a before s)))
     (sym (after_fractions stage g used s r))

@@ -106,7 +106,8 @@ own_most false n k h = omega arith
 four_most : (a b c d k : ℕ) → a ≤ k → b ≤ k → c ≤ k → d ≤ k → max (max a b) (max c d) ≤ k
 four_most a b c d k ha hb hc hd = omega (arith, ha, hb, hc, hd)
 
-width_below : (ops : List Op) → ((i : ℕ) → i < 4 → own_width_from Start ops (whole_width 0) i ≤ peak_from Start ops start_peaked) → width ops ≤ peak ops
+width_below : (ops : List Op) → ((i : ℕ) → i < 4 → own_width_from Start ops (whole_width 0) i ≤ peak_from Start ops start_peaked)
+    → width ops ≤ peak ops
 unfolding width own_width peak
 width_below ops own =
     let each = λ (i : ℕ) (below : i < 4). own_most (has_fractions Start ops) (own_width_from Start ops (whole_width 0) i)

@@ -116,7 +116,8 @@ entries_positive (given ∷ entries) = omega (arith, entries_positive entries, w
 pub entries_each : (entries : List (Option ℚ)) (i : ℕ) (x : ℚ) → entry entries i ≡ Some x → x.denominator ∣ entries_denominator entries
 entries_each [] i x h = absurd (none-some x h)
 entries_each (given ∷ entries) zero x h = with_each (entries_denominator entries) given x h
-entries_each (given ∷ entries) (suc i) x h = divides_on _ _ _ (entries_each entries i x h) (with_multiple (entries_denominator entries) given)
+entries_each (given ∷ entries) (suc i) x h = divides_on _ _ _ (entries_each entries i x h) (with_multiple
+    (entries_denominator entries) given)
 
 pub entries_divide : (entries : List (Option ℚ)) (m : ℕ) → 0 < m
     → ((i : ℕ) (x : ℚ) → entry entries i ≡ Some x → x.denominator ∣ m) → entries_denominator entries ∣ m

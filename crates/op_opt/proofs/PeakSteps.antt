@@ -111,7 +111,8 @@ pub term_below : (e : ℕ) (row : List ℚ) (v w : Width) (f j : ℕ) → (takes
     → term_size e row v j * f ≤ term_size e row w j
 term_below e row v w f j h = (elim (takes row j) as (λ t. takes row j ≡ t → term_size e row v j * f ≤ term_size e row w j) [
   | true ↦ λ t. term_some (size_over e (fraction_in row j)) (size_in v j) f (size_in w j) (h t)
-  | false ↦ λ t. term_zero (size_over e (fraction_in row j)) (size_in v j) f (size_in w j) (no_size e (fraction_in row j) (taken_or_zero row j t))
+  | false ↦ λ t. term_zero (size_over e (fraction_in row j)) (size_in v j) f (size_in w j) (no_size e (fraction_in row j)
+      (taken_or_zero row j t))
 ]) refl
 
 pub sum_scaled : (a b c d x p q r s y f : ℕ) → a * f ≤ p → b * f ≤ q → c * f ≤ r → d * f ≤ s → x * f ≤ y
@@ -127,7 +128,8 @@ row_below e row v w f is each =
     (const_times (size_over e (fraction_in row 4)) v.denominator f w.denominator is)
 
 -- a value that a used row takes is used before
-pub taken_used : (rows : List (List ℚ)) (used : List Bool) (i j : ℕ) → i < 4 → j < 4 → is_used used i ≡ true → takes (row_of rows i) j ≡ true
+pub taken_used : (rows : List (List ℚ)) (used : List Bool) (i j : ℕ) → i < 4 → j < 4 → is_used used i ≡ true
+    → takes (row_of rows i) j ≡ true
     → is_used (used_before (Linear rows) used) j ≡ true
 unfolding used_before
 taken_used rows used i j below inside u t =
@@ -202,7 +204,8 @@ dither_below k less used s t some more b =
     let r = ratio_of d e p b.ratio some more (power_positive k) b.denominator in
     below_of used r.ratio (d * factor d p) (e * factor e p) (λ i. size_in s.width i * factor d p + d * factor d p)
     (λ i. size_in t.width i * factor e p + e * factor e p) _ _ r.whole
-    (λ i below u. dithered (size_in s.width i) d (factor d p) r.ratio b.ratio (size_in t.width i) e (factor e p) (b.sizes i below u) r.whole r.factors)
+    (λ i below u. dithered (size_in s.width i) d (factor d p) r.ratio b.ratio (size_in t.width i) e (factor e p)
+        (b.sizes i below u) r.whole r.factors)
     (dithered s.peak d (factor d p) r.ratio b.ratio t.peak e (factor e p) b.peak r.whole r.factors)
 
 -- ---- entries
@@ -230,7 +233,8 @@ entries_below : (entries : List (Option ℚ)) (used : List Bool) (s t : Peaked) 
     (greatest_of_four (λ i. given_size (entries_denominator entries) t.width.denominator (entry entries i)))))
 entries_below entries used s t g h f is most each =
     let c = entries_denominator entries in
-    below_of used f (s.width.denominator * c) (t.width.denominator * c) g h _ _ (times_same s.width.denominator f t.width.denominator c is) each
+    below_of used f (s.width.denominator * c) (t.width.denominator * c) g h _ _
+        (times_same s.width.denominator f t.width.denominator c is) each
     (max_scaled (s.peak * c) _ f (t.peak * c) _ (times s.peak f t.peak c most)
     (greatest_scaled (λ i. given_size c s.width.denominator (entry entries i)) (λ i. given_size c t.width.denominator (entry entries i)) f
     (λ i below. given_below c s.width.denominator f t.width.denominator (entry entries i) is)))
@@ -274,7 +278,8 @@ swizzle_below from less used s t good b =
     below_of used b.ratio s.width.denominator t.width.denominator (λ i. size_in s.width (slice_index from i))
     (λ i. size_in t.width (slice_index from i)) _ _ b.denominator
     (λ i below u. b.sizes (slice_index from i) (index_below from good i)
-    (get_or-four (λ l. any_of_four (λ j. is_used used j && nat_eq (slice_index from j) l)) (slice_index from i) false (index_below from good i)
+    (get_or-four (λ l. any_of_four (λ j. is_used used j && nat_eq (slice_index from j) l)) (slice_index from i) false
+        (index_below from good i)
     ∙ any_from (λ j. is_used used j && nat_eq (slice_index from j) (slice_index from i)) i below
     (and_from _ _ u (eq-eqb (slice_index from i) (slice_index from i) refl)))) b.peak
 

@@ -1,5 +1,6 @@
 -- The peak of a list: the width's state with one number more, which bounds what a value may be that is not used.
-use Rattle.std.specs.Prelude.{◌≡◌, ◌≤◌, ℕ, ◌+◌, ◌-◌, ◌*◌, ◌^◌, max, Bool, true, if◌then◌else◌, List, [], ◌∷◌, Option, Some, None, unsigned_abs}
+use Rattle.std.specs.Prelude.{◌≡◌, ◌≤◌, ℕ, ◌+◌, ◌-◌, ◌*◌, ◌^◌, max, Bool, true, if◌then◌else◌, List, [], ◌∷◌, Option, Some, None}
+use Rattle.std.specs.Prelude.{unsigned_abs}
 use Rattle.frac_math.specs.Fraction.{ℚ}
 use Rattle.op_list.specs.declared.types.Stage.{Stage}
 use Rattle.op_list.specs.declared.types.Stage.TheVariants.{Start}
