@@ -216,7 +216,7 @@ pub eases_two : (stage : Stage) (a b g : Op) (rest : List Op) → (are_typed sta
     → stage_after stage g ≡ stage_after (stage_after stage a) b)
     → (are_typed stage (a ∷ b ∷ rest) ≡ true → IsPart (used_before g (used_from rest)) (used_before a (used_before b (used_from rest))))
     → ((s : Peaked) → are_typed stage (a ∷ b ∷ rest) ≡ true → 0 < s.width.denominator
-        → is_rational (stage_after (stage_after stage a) b) ≡ true
+    → is_rational (stage_after (stage_after stage a) b) ≡ true
     → Below (used_from rest) (peaked_after stage g (used_from rest) s)
     (peaked_after (stage_after stage a) b (used_from rest) (peaked_after stage a (used_before b (used_from rest)) s)))
     → Eases stage (a ∷ b ∷ rest) (g ∷ rest)
@@ -325,7 +325,7 @@ pub two_fractions : (stage : Stage) (a b g : Op) (rest : List Op) → stage_afte
     → stage_after stage b ≡ stage
     → (are_typed stage (a ∷ b ∷ rest) ≡ true → IsPart (used_before g (used_from rest)) (used_before a (used_before b (used_from rest))))
     → ((s : Peaked) → are_typed stage (a ∷ b ∷ rest) ≡ true → 0 < s.width.denominator
-        → Below (used_from rest) (fractions_after g (used_from rest) s)
+    → Below (used_from rest) (fractions_after g (used_from rest) s)
     (fractions_after b (used_from rest) (fractions_after a (used_before b (used_from rest)) s)))
     → Eases stage (a ∷ b ∷ rest) (g ∷ rest)
 two_fractions stage a b g rest same_g same_a same_b part below =
@@ -336,9 +336,9 @@ two_fractions stage a b g rest same_g same_a same_b part below =
     (let r : is_rational stage ≡ true = sym (ap is_rational (ap (λ (n : Stage). stage_after n b) same_a ∙ same_b)) ∙ rational in
     let one : peaked_after stage a before s ≡ fractions_after a before s = after_fractions stage a before s r in
     let two : peaked_after (stage_after stage a) b used (peaked_after stage a before s) ≡ fractions_after b used
-        (fractions_after a before s) =
+    (fractions_after a before s) =
     ap (λ (n : Stage). peaked_after n b used (peaked_after stage a before s)) same_a ∙ after_fractions stage b used
-        (peaked_after stage a before s) r
+    (peaked_after stage a before s) r
     ∙ ap (fractions_after b used) one in
     subst (λ (t : Peaked). Below used t (peaked_after (stage_after stage a) b used (peaked_after stage a before s)))
     (sym (after_fractions stage g used s r))

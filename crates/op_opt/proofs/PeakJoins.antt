@@ -144,7 +144,7 @@ scale_bounds by (suc (suc (suc (suc i)))) j below inside = absurd (omega arith)
 
 scale_width : (by : ℚ) (w : Width) (i : ℕ) → i < 4 → size_in w i * unsigned_abs by.numerator ≡ scale_size by i 0 * size_in w 0
     + scale_size by i 1 * size_in w 1 + scale_size by i 2 * size_in w 2 + scale_size by i 3 * size_in w 3 + scale_size by i 4 *
-        w.denominator
+    w.denominator
 scale_width by w zero below = at0 (unsigned_abs by.numerator) (size_in w 0) (size_in w 1) (size_in w 2) (size_in w 3) w.denominator
   where
     at0 : (p a b c d x : ℕ) → a * p ≡ p * a + 0 * b + 0 * c + 0 * d + 0 * x
@@ -210,22 +210,22 @@ dot_size b a = 0 + b 0 * a 0 + b 1 * a 1 + b 2 * a 2 + b 3 * a 3
 
 dot_bound : (row : List ℚ) (rows : List (List ℚ)) (j e f : ℕ) (b a : ℕ → ℕ) → 0 < f * e
     → ((k : ℕ) → k < 4 → HasBound (fraction_in row k) (bound f (b k))) → ((k : ℕ) → k < 4
-        → HasBound (fraction_in (row_of rows k) j) (bound e (a k)))
+    → HasBound (fraction_in (row_of rows k) j) (bound e (a k)))
     → HasBound (exact_dot row (column_of rows j)) (bound (f * e) (dot_size b a))
 unfolding exact_dot
 dot_bound row rows j e f b a positive left right =
     let term = λ (k : ℕ) (below : k < 4). product_bounded (fraction_in row k) (fraction_in (row_of rows k) j) (bound f (b k)) (bound e
-        (a k))
+    (a k))
     (left k below) (right k below) in
     added _ _ (f * e) _ _ (added _ _ (f * e) _ _ (added _ _ (f * e) _ _ (added _ _ (f * e) _ _ (zero_bound (f * e) positive)
     (term 0 (omega arith))) (term 1 (omega arith))) (term 2 (omega arith))) (term 3 (omega arith))
 
 regrouped : (b0 b1 b2 b3 b4 e n0 n1 n2 n3 d p0 p1 p2 p3 p4 q0 q1 q2 q3 q4 r0 r1 r2 r3 r4 s0 s1 s2 s3 s4 : ℕ)
     → (0 + b0 * p0 + b1 * q0 + b2 * r0 + b3 * s0) * n0 + (0 + b0 * p1 + b1 * q1 + b2 * r1 + b3 * s1) * n1 +
-        (0 + b0 * p2 + b1 * q2 + b2 * r2 + b3 * s2) * n2 + (0 + b0 * p3 + b1 * q3 + b2 * r3 + b3 * s3) * n3 +
-        (0 + b0 * p4 + b1 * q4 + b2 * r4 + b3 * s4 + b4 * e) * d
+    (0 + b0 * p2 + b1 * q2 + b2 * r2 + b3 * s2) * n2 + (0 + b0 * p3 + b1 * q3 + b2 * r3 + b3 * s3) * n3 +
+    (0 + b0 * p4 + b1 * q4 + b2 * r4 + b3 * s4 + b4 * e) * d
     ≡ b0 * (p0 * n0 + p1 * n1 + p2 * n2 + p3 * n3 + p4 * d) + b1 * (q0 * n0 + q1 * n1 + q2 * n2 + q3 * n3 + q4 * d) + b2 *
-        (r0 * n0 + r1 * n1 + r2 * n2 + r3 * n3 + r4 * d) + b3 * (s0 * n0 + s1 * n1 + s2 * n2 + s3 * n3 + s4 * d) + b4 * (d * e)
+    (r0 * n0 + r1 * n1 + r2 * n2 + r3 * n3 + r4 * d) + b3 * (s0 * n0 + s1 * n1 + s2 * n2 + s3 * n3 + s4 * d) + b4 * (d * e)
 regrouped b0 b1 b2 b3 b4 e n0 n1 n2 n3 d p0 p1 p2 p3 p4 q0 q1 q2 q3 q4 r0 r1 r2 r3 r4 s0 s1 s2 s3 s4 = omega arith
 
 pub joined_exact : (first second joined : List (List ℚ)) → joined_rows first second ≡ Some joined
@@ -305,7 +305,7 @@ exact_size first second p q e f a b over_a over_b c g is w i below each =
     let last = ap (λ x. b i 4 * x) (over_a.denominator w) in
     let whole = over_b.width mid i below in
     finish _ _ _ _ _ _ _ _ _ _ _ _ _ most same whole (one 0 (omega arith)) (one 1 (omega arith)) (one 2 (omega arith)) (one 3
-        (omega arith)) last
+    (omega arith)) last
   where
     finish : (r s t x0 x1 x2 x3 x4 y0 y1 y2 y3 y4 : ℕ) → r ≤ s → s ≡ y0 + y1 + y2 + y3 + y4 → t ≡ x0 + x1 + x2 + x3 + x4
         → x0 ≡ y0 → x1 ≡ y1 → x2 ≡ y2 → x3 ≡ y3 → x4 ≡ y4 → r ≤ t
@@ -360,7 +360,7 @@ row_taken row rows (suc (suc (suc (suc j)))) below h = absurd (omega arith)
 joined_part : (first second joined : List (List ℚ)) (p q : Op) (e f : ℕ) (a b : ℕ → ℕ → ℕ) (used : List Bool) → IsOver first p e a
     → IsOver second q f b
     → four (λ i. exact_row (row_of second i) first) ≡ joined → IsPart (used_before (Linear joined) used) (used_before p
-        (used_before q used))
+    (used_before q used))
 unfolding used_before
 joined_part first second joined p q e f a b used over_a over_b is = record {
   each = λ j below t.
@@ -412,7 +412,7 @@ exact_below : (first second : List (List ℚ)) (p q : Op) (e f : ℕ) (a b : ℕ
     → IsOver first p e a → IsOver second q f b → IsCounted p q e f used before s
     → Below used (peaked (width_of (s.width.denominator * rows_denominator (four (λ i. exact_row (row_of second i) first)))
     (λ k. row_size (rows_denominator (four (λ i. exact_row (row_of second i) first))) (row_of (four (λ i. exact_row
-        (row_of second i) first)) k) s.width))
+    (row_of second i) first)) k) s.width))
     (max (s.peak * rows_denominator (four (λ i. exact_row (row_of second i) first)))
     (greatest_of_four (λ k. if is_used used k then row_size (rows_denominator (four (λ i. exact_row (row_of second i) first)))
     (row_of (four (λ i. exact_row (row_of second i) first)) k) s.width else 0))))
@@ -449,21 +449,21 @@ exact_below first second p q e f a b used before s over_a over_b counted =
 joined_below : (first second joined : List (List ℚ)) (p q : Op) (e f : ℕ) (a b : ℕ → ℕ → ℕ) (used before : List Bool) (s : Peaked)
     → IsOver first p e a → IsOver second q f b → four (λ i. exact_row (row_of second i) first) ≡ joined → IsCounted p q e f used before s
     → Below used (peaked (width_of (s.width.denominator * rows_denominator joined) (λ k. row_size (rows_denominator joined)
-        (row_of joined k) s.width))
+    (row_of joined k) s.width))
     (max (s.peak * rows_denominator joined) (greatest_of_four (λ k. if is_used used k then row_size (rows_denominator joined)
-        (row_of joined k) s.width else 0))))
+    (row_of joined k) s.width else 0))))
     (fractions_after q used (fractions_after p before s))
 joined_below first second joined p q e f a b used before s over_a over_b is counted =
     subst (λ (rows : List (List ℚ)). Below used (peaked (width_of (s.width.denominator * rows_denominator rows)
     (λ k. row_size (rows_denominator rows) (row_of rows k) s.width))
     (max (s.peak * rows_denominator rows) (greatest_of_four (λ k. if is_used used k then row_size (rows_denominator rows)
-        (row_of rows k) s.width else 0))))
+    (row_of rows k) s.width else 0))))
     (fractions_after q used (fractions_after p before s))) is (exact_below first second p q e f a b used before s over_a over_b counted)
 
 linear_is : (rows : List (List ℚ)) (used : List Bool) (s : Peaked) → fractions_after (Linear rows) used s
     ≡ peaked (width_of (s.width.denominator * rows_denominator rows) (λ k. row_size (rows_denominator rows) (row_of rows k) s.width))
     (max (s.peak * rows_denominator rows) (greatest_of_four (λ k. if is_used used k then row_size (rows_denominator rows)
-        (row_of rows k) s.width else 0)))
+    (row_of rows k) s.width else 0)))
 unfolding fractions_width fractions_peak
 linear_is rows used s = refl
 
@@ -561,7 +561,7 @@ scales_below x y z used before s is =
     below_of used g (s.width.denominator * z.denominator) (s.width.denominator * x.denominator * y.denominator)
     (λ i. size_in s.width i * unsigned_abs z.numerator)
     (λ i. size_in (width_of (s.width.denominator * x.denominator)
-        (λ k. size_in s.width k * unsigned_abs x.numerator)) i * unsigned_abs y.numerator) _ _
+    (λ k. size_in s.width k * unsigned_abs x.numerator)) i * unsigned_abs y.numerator) _ _
     (same s.width.denominator z.denominator x.denominator y.denominator g whole)
     (λ i below u. sized (size_in s.width i) (unsigned_abs z.numerator) g (unsigned_abs x.numerator) (unsigned_abs y.numerator) _ most
     (get_or-four (λ k. size_in s.width k * unsigned_abs x.numerator) i 0 below))
@@ -610,7 +610,7 @@ join_maps_easing stage ranges (Linear first ∷ Scale b ∷ rest) change is =
     option_and_then_some _ (joined_rows first (diagonal b)) change is (λ joined rows same.
     maps_joined stage first (diagonal b) joined (Linear first) (Scale b) (rows_denominator first) b.denominator
     (λ i j. size_over (rows_denominator first) (fraction_in (row_of first i) j)) (scale_size b) rest change (linear_over first)
-        (scale_over b) rows
+    (scale_over b) rows
     (λ s. subst (λ (u : List Bool). IsCounted (Linear first) (Scale b) (rows_denominator first) b.denominator (used_from rest) u s)
     (sym (scale_used b (used_from rest))) (linear_scale first b (used_from rest) s)) same)
 join_maps_easing stage ranges (Linear first ∷ Linear second ∷ rest) change is =

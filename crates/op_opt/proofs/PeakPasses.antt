@@ -92,7 +92,7 @@ swizzles_below first second used before s good =
     below_of used 1 s.width.denominator s.width.denominator (λ i. size_in s.width (slice_index (four both) i))
     (λ i. size_in (width_of s.width.denominator one) (slice_index second i)) s.peak s.peak (omega arith)
     (λ i below u. same_size (size_in s.width (slice_index (four both) i)) (size_in (width_of s.width.denominator one)
-        (slice_index second i))
+    (slice_index second i))
     (ap (size_in s.width) (get_or-four both i 0 below) ∙ sym (get_or-four one (slice_index second i) 0 (index_below second good i))))
     (omega arith)
   where
@@ -106,7 +106,7 @@ join_swizzles_easing stage ranges (Swizzle first ∷ Swizzle second ∷ rest) ch
     by_change stage (Swizzle first ∷ Swizzle second ∷ rest) _ change is
     (two_fractions stage (Swizzle first) (Swizzle second) made rest refl refl refl
     (λ typed. swizzles_part first second (used_from rest) (typed_lanes stage second rest (typed_parts stage (Swizzle first)
-        (Swizzle second ∷ rest) typed).2))
+    (Swizzle second ∷ rest) typed).2))
     (λ s typed p. swizzles_below first second (used_from rest) (used_before (Swizzle second) (used_from rest)) s
     (typed_lanes stage second rest (typed_parts stage (Swizzle first) (Swizzle second ∷ rest) typed).2)))
 join_swizzles_easing stage ranges _ change is = absurd (none-some change is)
@@ -142,7 +142,7 @@ two_shifts stage a b g rest change sa sb sg is =
     (subst (λ (u : List Bool). IsPart used u) (sym (sa.uses (used_before b used) ∙ sb.uses used)) (part_itself used)))
     (λ s. subst (λ (t : Peaked). Below used t (fractions_after b used (fractions_after a (used_before b used) s))) (sym (sg.keeps used s))
     (subst (λ (t : Peaked). Below used s t) (sym (sb.keeps used (fractions_after a (used_before b used) s) ∙ sa.keeps
-        (used_before b used) s))
+    (used_before b used) s))
     (below_itself used s))) is
 
 between : (a b : ℕ) (t : Bool) → IsShift (if t then LeftShift (a - b) else RightShift (b - a))
@@ -157,7 +157,7 @@ join_shifts_easing stage ranges (LeftShift a ∷ LeftShift b ∷ rest) change is
 join_shifts_easing stage ranges (RightShift a ∷ RightShift b ∷ rest) change is =
     option_and_then_some _ (sum_below (bits_at stage) a b) change is
     (λ n sum same. two_shifts stage (RightShift a) (RightShift b) (RightShift n) rest change (right_shift a) (right_shift b)
-        (right_shift n) same)
+    (right_shift n) same)
 join_shifts_easing stage ranges (LeftShift a ∷ RightShift b ∷ rest) change is =
     let c = chosen (used_have_room (bits_at stage) a (used_from rest) ranges) _ change is in
     two_shifts stage (LeftShift a) (RightShift b) (shift_between a b) rest change (left_shift a) (right_shift b) (between a b _) c.1

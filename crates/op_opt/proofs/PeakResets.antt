@@ -119,7 +119,7 @@ entries_trimmed entries k used s g h inside each =
     (λ same. none_given e f m d (entry entries i) (entry (without entries k) i)
     (ap (entry (without entries k)) same ∙ dropped_entry entries k inside (eq-eqb k k refl)))
     (λ other. subst (λ (o : Option ℚ). given_size e d (entry (without entries k) i) * f ≤ given_size m d o)
-        (other_entry entries k i below other)
+    (other_entry entries k i below other)
     (given_up e f m d (entry (without entries k) i) is (entries_each (without entries k) i))))))
 
 clear_trimmed : (stage : Stage) (entries : List (Option ℚ)) (k : ℕ) (rest : List Op) → k < 4 → is_used (used_from rest) k ≡ false
@@ -131,7 +131,7 @@ clear_trimmed stage entries k rest inside free =
     let m = entries_denominator entries in
     one_fractions stage (Clear entries) (Clear (without entries k)) rest refl refl
     (λ typed. four_part (λ i. is_used used i && is_missing (entry (without entries k) i)) (λ i. is_used used i && is_missing
-        (entry entries i))
+    (entry entries i))
     (λ i below t. (let p = and_parts (is_used used i) (is_missing (entry (without entries k) i)) t in
     and_from (is_used used i) (is_missing (entry entries i)) p.0 (by_place i k
     (λ same. absurd (one_unused (is_used used) i k p.0 free same))
@@ -188,7 +188,7 @@ trim_clear_easing stage ranges (Clear entries ∷ rest) change is =
     (let l = lowest_passes test i first in
     by_change stage (Clear entries ∷ rest) _ change same
     (clear_trimmed stage entries i rest l.0 (from_not _ (and_parts (is_given (entry entries i)) (not (is_used
-        (used_from rest) i)) l.1).1))))
+    (used_from rest) i)) l.1).1))))
 trim_clear_easing stage ranges _ change is = absurd (none-some change is)
 
 pub trim_clamp_easing : IsEasing (λ stage ranges ops. trim_clamp ranges ops)
@@ -198,7 +198,7 @@ trim_clamp_easing stage ranges (Min limits ∷ rest) change is =
     (range_in ranges i).greatest (entry limits i)))) change is
     (λ i first same. by_change stage (Min limits ∷ rest) _ change same (min_trimmed stage limits i rest (lowest_passes
     (λ j. is_given (entry limits j) && (not (is_used (used_from rest) j) || is_known_at_most (range_in ranges j).greatest
-        (entry limits j))) i
+    (entry limits j))) i
     first).0))
 trim_clamp_easing stage ranges (Max limits ∷ rest) change is =
     option_and_then_some _ (lowest (λ i. is_given (entry limits i) && (not (is_used (used_from rest) i) || is_known_at_most
@@ -244,7 +244,7 @@ row_up : (e f m : ℕ) (row : List ℚ) (w : Width) → e * f ≡ m → ((j : �
     → row_size e row w * f ≤ row_size m row w
 row_up e f m row w is each =
     let up = λ (j n : ℕ). up_const (size_over e (fraction_in row j)) (size_over m (fraction_in row j)) n f (size_up e f m
-        (fraction_in row j) is (each j)) in
+    (fraction_in row j) is (each j)) in
     sum_scaled _ _ _ _ (size_over e (fraction_in row 4) * w.denominator) _ _ _ _ (size_over m (fraction_in row 4) * w.denominator) f
     (up 0 (size_in w 0)) (up 1 (size_in w 1)) (up 2 (size_in w 2)) (up 3 (size_in w 3)) (up 4 w.denominator)
 
@@ -262,7 +262,7 @@ rows_reset stage rows k rest free =
     (λ same. absurd (one_unused (is_used used) i k u free same)) (other_row rows k i below) in
     one_fractions stage (Linear rows) (Linear new) rest refl refl
     (λ typed. four_part (λ i. any_of_four (λ j. is_used used j && takes (row_of new j) i)) (λ i. any_of_four
-        (λ j. is_used used j && takes (row_of rows j) i))
+    (λ j. is_used used j && takes (row_of rows j) i))
     (λ i below t. any_found (λ j. is_used used j && takes (row_of new j) i) t
     (λ j inside v. (let p = and_parts (is_used used j) (takes (row_of new j) i) v in
     any_from (λ l. is_used used l && takes (row_of rows l) i) j inside
@@ -295,7 +295,7 @@ indices_reset stage from k rest free =
     (λ s. below_of used 1 s.width.denominator s.width.denominator (λ i. size_in s.width (slice_index new i))
     (λ i. size_in s.width (slice_index from i)) s.peak s.peak (omega arith)
     (λ i below u. same_times (size_in s.width (slice_index new i)) (size_in s.width (slice_index from i)) (ap (size_in s.width)
-        (index_is i below u)))
+    (index_is i below u)))
     (omega arith))
   where
     same_times : (a b : ℕ) → a ≡ b → a * 1 ≤ b

@@ -205,7 +205,7 @@ dither_below k less used s t some more b =
     below_of used r.ratio (d * factor d p) (e * factor e p) (λ i. size_in s.width i * factor d p + d * factor d p)
     (λ i. size_in t.width i * factor e p + e * factor e p) _ _ r.whole
     (λ i below u. dithered (size_in s.width i) d (factor d p) r.ratio b.ratio (size_in t.width i) e (factor e p)
-        (b.sizes i below u) r.whole r.factors)
+    (b.sizes i below u) r.whole r.factors)
     (dithered s.peak d (factor d p) r.ratio b.ratio t.peak e (factor e p) b.peak r.whole r.factors)
 
 -- ---- entries
@@ -234,7 +234,7 @@ entries_below : (entries : List (Option ℚ)) (used : List Bool) (s t : Peaked) 
 entries_below entries used s t g h f is most each =
     let c = entries_denominator entries in
     below_of used f (s.width.denominator * c) (t.width.denominator * c) g h _ _
-        (times_same s.width.denominator f t.width.denominator c is) each
+    (times_same s.width.denominator f t.width.denominator c is) each
     (max_scaled (s.peak * c) _ f (t.peak * c) _ (times s.peak f t.peak c most)
     (greatest_scaled (λ i. given_size c s.width.denominator (entry entries i)) (λ i. given_size c t.width.denominator (entry entries i)) f
     (λ i below. given_below c s.width.denominator f t.width.denominator (entry entries i) is)))
@@ -279,7 +279,7 @@ swizzle_below from less used s t good b =
     (λ i. size_in t.width (slice_index from i)) _ _ b.denominator
     (λ i below u. b.sizes (slice_index from i) (index_below from good i)
     (get_or-four (λ l. any_of_four (λ j. is_used used j && nat_eq (slice_index from j) l)) (slice_index from i) false
-        (index_below from good i)
+    (index_below from good i)
     ∙ any_from (λ j. is_used used j && nat_eq (slice_index from j) (slice_index from i)) i below
     (and_from _ _ u (eq-eqb (slice_index from i) (slice_index from i) refl)))) b.peak
 

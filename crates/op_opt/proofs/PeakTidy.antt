@@ -91,8 +91,10 @@ unfolding reset_unused
 tidy_rows rows rest h =
     let test = λ (i : ℕ). not (is_used (used_from rest) i) && not (is_identity_row i (row_of rows i)) in
     let none : lowest test ≡ None = and_then_none _ (lowest test) (λ i e. none-some _ (sym e)) h in
-    record { each = λ i below free. must_be (is_used (used_from rest) i) (is_identity_row i (row_of rows i))
-        (none_lowest test i below none) free }
+    record {
+      each = λ i below free. must_be (is_used (used_from rest) i) (is_identity_row i (row_of rows i))
+          (none_lowest test i below none) free;
+    }
 
 -- ---- a row that is the identity
 sum_at_most : (a b c d x p q r s n : ℕ) → a ≤ p → b ≤ q → c ≤ r → d ≤ s → x ≤ 0 → p + q + r + s ≤ n → a + b + c + d + x ≤ n
@@ -116,43 +118,43 @@ unfolding is_identity_row
 identity_size e row w k zero below le h =
     let p = and_parts _ _ h in let q = and_parts _ _ p.0 in let r = and_parts _ _ q.0 in let s = and_parts _ _ r.0 in
     let no = λ (j n : ℕ) (z : fraction_in row j ≡ nat 0). none_times (size_over e (fraction_in row j)) n (no_size e
-        (fraction_in row j) z) in
+    (fraction_in row j) z) in
     sum_at_most _ _ _ _ _ (k * e) 0 0 0 (k * e)
     (one_times e (size_in w 0) k (size_over e (fraction_in row 0)) (one_size e (fraction_in row 0) (equal_is (fraction_in row 0)
-        (nat 1) s.0)) le)
+    (nat 1) s.0)) le)
     (no 1 (size_in w 1) (equal_is (fraction_in row 1) (nat 0) s.1)) (no 2 (size_in w 2) (equal_is (fraction_in row 2) (nat 0) r.1))
     (no 3 (size_in w 3) (equal_is (fraction_in row 3) (nat 0) q.1)) (no 4 w.denominator (equal_is (fraction_in row 4) (nat 0) p.1))
-        (omega arith)
+    (omega arith)
 identity_size e row w k (suc zero) below le h =
     let p = and_parts _ _ h in let q = and_parts _ _ p.0 in let r = and_parts _ _ q.0 in let s = and_parts _ _ r.0 in
     let no = λ (j n : ℕ) (z : fraction_in row j ≡ nat 0). none_times (size_over e (fraction_in row j)) n (no_size e
-        (fraction_in row j) z) in
+    (fraction_in row j) z) in
     sum_at_most _ _ _ _ _ 0 (k * e) 0 0 (k * e)
     (no 0 (size_in w 0) (equal_is (fraction_in row 0) (nat 0) s.0))
     (one_times e (size_in w 1) k (size_over e (fraction_in row 1)) (one_size e (fraction_in row 1) (equal_is (fraction_in row 1)
-        (nat 1) s.1)) le)
+    (nat 1) s.1)) le)
     (no 2 (size_in w 2) (equal_is (fraction_in row 2) (nat 0) r.1))
     (no 3 (size_in w 3) (equal_is (fraction_in row 3) (nat 0) q.1)) (no 4 w.denominator (equal_is (fraction_in row 4) (nat 0) p.1))
-        (omega arith)
+    (omega arith)
 identity_size e row w k (suc (suc zero)) below le h =
     let p = and_parts _ _ h in let q = and_parts _ _ p.0 in let r = and_parts _ _ q.0 in let s = and_parts _ _ r.0 in
     let no = λ (j n : ℕ) (z : fraction_in row j ≡ nat 0). none_times (size_over e (fraction_in row j)) n (no_size e
-        (fraction_in row j) z) in
+    (fraction_in row j) z) in
     sum_at_most _ _ _ _ _ 0 0 (k * e) 0 (k * e)
     (no 0 (size_in w 0) (equal_is (fraction_in row 0) (nat 0) s.0)) (no 1 (size_in w 1) (equal_is (fraction_in row 1) (nat 0) s.1))
     (one_times e (size_in w 2) k (size_over e (fraction_in row 2)) (one_size e (fraction_in row 2) (equal_is (fraction_in row 2)
-        (nat 1) r.1)) le)
+    (nat 1) r.1)) le)
     (no 3 (size_in w 3) (equal_is (fraction_in row 3) (nat 0) q.1)) (no 4 w.denominator (equal_is (fraction_in row 4) (nat 0) p.1))
-        (omega arith)
+    (omega arith)
 identity_size e row w k (suc (suc (suc zero))) below le h =
     let p = and_parts _ _ h in let q = and_parts _ _ p.0 in let r = and_parts _ _ q.0 in let s = and_parts _ _ r.0 in
     let no = λ (j n : ℕ) (z : fraction_in row j ≡ nat 0). none_times (size_over e (fraction_in row j)) n (no_size e
-        (fraction_in row j) z) in
+    (fraction_in row j) z) in
     sum_at_most _ _ _ _ _ 0 0 0 (k * e) (k * e)
     (no 0 (size_in w 0) (equal_is (fraction_in row 0) (nat 0) s.0)) (no 1 (size_in w 1) (equal_is (fraction_in row 1) (nat 0) s.1))
     (no 2 (size_in w 2) (equal_is (fraction_in row 2) (nat 0) r.1))
     (one_times e (size_in w 3) k (size_over e (fraction_in row 3)) (one_size e (fraction_in row 3) (equal_is (fraction_in row 3)
-        (nat 1) q.1)) le)
+    (nat 1) q.1)) le)
     (no 4 w.denominator (equal_is (fraction_in row 4) (nat 0) p.1)) (omega arith)
 identity_size e row w k (suc (suc (suc (suc i)))) below le h = absurd (omega arith)
 
@@ -163,10 +165,10 @@ used_at false n g h le = absurd (cc)
 
 row_covered : (e : ℕ) (rows : List (List ℚ)) (used : List Bool) (s : Peaked) (i : ℕ) → IsTidy rows used → IsCovered s → i < 4
     → row_size e (row_of rows i) s.width ≤ max (s.peak * e) (greatest_of_four (λ j. if is_used used j then row_size e
-        (row_of rows j) s.width else 0))
+    (row_of rows j) s.width else 0))
 row_covered e rows used s i tidy c below = (elim (is_used used i) as (λ b. is_used used i ≡ b
     → row_size e (row_of rows i) s.width ≤ max (s.peak * e) (greatest_of_four (λ j. if is_used used j then row_size e
-        (row_of rows j) s.width else 0))) [
+    (row_of rows j) s.width else 0))) [
       | true ↦ λ u. left_most _ _ (s.peak * e) (used_at (is_used used i) (row_size e (row_of rows i) s.width) _ u
           (greatest_at (λ j. if is_used used j then row_size e (row_of rows j) s.width else 0) i below))
       | false ↦ λ u. right_most _ _ _ (identity_size e (row_of rows i) s.width s.peak i below (c.sizes i below) (tidy.each i below u))
@@ -233,11 +235,11 @@ ops_covered stage (Dither k) used s good tidy c =
     let h = factor s.width.denominator (2 * 4 ^ k) in
     covers_of (s.width.denominator * h) _ (λ i. size_in s.width i * h + s.width.denominator * h)
     (dithered_denominator s.peak s.width.denominator h) (λ i below. dithered_most (size_in s.width i) s.peak s.width.denominator h
-        (c.sizes i below))
+    (c.sizes i below))
 ops_covered stage (Linear rows) used s good tidy c =
     let e = rows_denominator rows in
     covers_of (s.width.denominator * e) _ (λ i. row_size e (row_of rows i) s.width)
-        (times_most s.width.denominator s.peak e _ c.denominator)
+    (times_most s.width.denominator s.peak e _ c.denominator)
     (λ i below. row_covered e rows used s i tidy c below)
 ops_covered stage (Scale by) used s good tidy c =
     covers_of (s.width.denominator * by.denominator) _ (λ i. size_in s.width i * unsigned_abs by.numerator)
@@ -316,8 +318,11 @@ tidy_op _ ops h = tt
 pub are_tidy : (ops : List Op) → ((front : List Op) (op : Op) (rest : List Op) → front ++ op ∷ rest ≡ ops → reset_unused (op ∷ rest) ≡ None)
     → AreTidy ops
 are_tidy [] h = tt
-are_tidy (op ∷ ops) h = (tidy_op op ops (h [] op ops refl), are_tidy ops (λ front other rest is. h (op ∷ front) other rest (ap
-    (λ list. op ∷ list) is)))
+are_tidy (op ∷ ops) h = (
+  tidy_op op ops (h [] op ops refl),
+  are_tidy ops (λ front other rest is. h (op ∷ front) other rest (ap
+      (λ list. op ∷ list) is)),
+)
 
 own_head : (r : Bool) (s : Peaked) (i : ℕ) → i < 4 → (r ≡ true → IsCovered s)
     → (if r then own_size s.width i else 0) ≤ (if r then s.peak else 0)
@@ -336,7 +341,7 @@ own_below stage (op ∷ ops) s i below typed tidy c =
     let after = peaked_after stage op (used_from ops) s in
     let next = step_covered stage op (used_from ops) s parts.0 parts.1 tidy.0 c in
     both_heads (if is_rational (stage_after stage op) then own_size after.width i else 0) (own_width_from
-        (stage_after stage op) ops after.width i)
+    (stage_after stage op) ops after.width i)
     (if is_rational (stage_after stage op) then after.peak else 0) (peak_from (stage_after stage op) ops after)
     (own_head (is_rational (stage_after stage op)) after i below next)
     (own_below (stage_after stage op) ops after i below parts.2 tidy.1 next)

@@ -97,7 +97,7 @@ unfolding stage_after used_before fractions_width fractions_peak
 dither_dropped stage k rest =
     drops_fractions stage (Dither k) rest refl (part_itself (used_from rest))
     (λ s. below_after (used_from rest) s (factor s.width.denominator (2 * 4 ^ k)) (s.width.denominator * factor s.width.denominator
-        (2 * 4 ^ k))
+    (2 * 4 ^ k))
     (λ i. size_in s.width i * factor s.width.denominator (2 * 4 ^ k) + s.width.denominator * factor s.width.denominator (2 * 4 ^ k)) _ refl
     (λ i below u. left_of_sum _ _) (left_of_sum _ _))
   where
@@ -109,7 +109,7 @@ unfolding stage_after used_before fractions_width fractions_peak
 one_dropped stage rest =
     drops_fractions stage (Scale (nat 1)) rest refl (part_itself (used_from rest))
     (λ s. below_after (used_from rest) s 1 (s.width.denominator * 1) (λ i. size_in s.width i * 1) _ refl (λ i below u. omega arith)
-        (omega arith))
+    (omega arith))
 
 -- ---- identity rows
 one_coefficient : (row : List ℚ) (i : ℕ) → i < 4 → is_identity_row i row ≡ true → fraction_in row i ≡ nat 1
@@ -153,7 +153,7 @@ one_not_zero = refl
 
 linear_dropped : (stage : Stage) (rows : List (List ℚ)) (rest : List Op)
     → all_of_four (λ i. not (is_used (used_from rest) i) || is_identity_row i (row_of rows i)) ≡ true
-        → Eases stage (Linear rows ∷ rest) rest
+    → Eases stage (Linear rows ∷ rest) rest
 unfolding stage_after fractions_width fractions_peak
 linear_dropped stage rows rest h =
     let used = used_from rest in
@@ -161,8 +161,10 @@ linear_dropped stage rows rest h =
     (if_used (is_used used i) _ (all_at (λ j. not (is_used used j) || is_identity_row j (row_of rows j)) i below h) u) in
     let e = rows_denominator rows in
     drops_fractions stage (Linear rows) rest refl
-    (record { each = λ i below u. taken_used rows used i i below below u (some_taken (row_of rows i) i (nat 1)
-        (one i below u) one_not_zero) })
+    (record {
+      each = λ i below u. taken_used rows used i i below below u (some_taken (row_of rows i) i (nat 1)
+          (one i below u) one_not_zero);
+    })
     (λ s. below_after used s e (s.width.denominator * e) (λ i. row_size e (row_of rows i) s.width) _ refl
     (λ i below u. one_term e (size_over e (fraction_in (row_of rows i) i)) (size_in s.width i) (row_size e (row_of rows i) s.width)
     (one_size e (fraction_in (row_of rows i) i) (one i below u)) (term_in_row e (row_of rows i) s.width i below)) (left_of_max _ _))
@@ -178,7 +180,7 @@ swizzle_dropped stage from rest h =
     (record { each = λ i below u. taken_index from used i i below below u (same i below u) })
     (λ s. below_after used s 1 s.width.denominator (λ i. size_in s.width (slice_index from i)) s.peak (omega arith)
     (λ i below u. same_times (size_in s.width i) (size_in s.width (slice_index from i)) (ap (size_in s.width) (same i below u)))
-        (omega arith))
+    (omega arith))
   where
     same_times : (a b : ℕ) → b ≡ a → a * 1 ≤ b
     same_times a b is = omega (arith, is)
@@ -270,7 +272,7 @@ many_not_zero = refl
 
 expanded : (stage : Stage) (by to : PixType) (first last : Bool) (op : Op) (rest : List Op) (change : Change)
     → ((n : Stage) → stage_after n op ≡ n) → IsPart (used_from rest) (used_before op (used_from rest))
-        → goes_through_fractions stage by to ≡ true
+    → goes_through_fractions stage by to ≡ true
     → taking 3 (Some (Convert U16 true)) ≡ Some change
     → Eases stage (Convert by first ∷ op ∷ Convert to last ∷ rest) (changed (Convert by first ∷ op ∷ Convert to last ∷ rest) change)
 unfolding stage_after used_before
@@ -278,7 +280,7 @@ expanded stage by to first last op rest change stays part through is =
     let p = and_parts (has_type U8 stage && is_same by Rat) (is_same to U16) through in
     by_change stage (Convert by first ∷ op ∷ Convert to last ∷ rest) _ change is
     (eases_three stage (Convert by first) op (Convert to last) (Convert U16 true) rest (ap (λ (t : PixType). Typed t) (sym
-        (word_type to p.1)))
+    (word_type to p.1)))
     (words_whole to p.1) part)
 
 pub expand_bytes_easing : IsEasing (λ stage ranges ops. expand_bytes stage ops)
@@ -296,7 +298,7 @@ expand_bytes_easing stage ranges (Convert by first ∷ Linear rows ∷ Convert t
       each = λ i below u. taken_used rows used i i below below u (some_taken (row_of rows i) i (nat 257)
           (expanding_is (row_of rows i) i below
           (if_used (is_used used i) _ (all_at (λ j. not (is_used used j) || is_expanding_row j
-              (row_of rows j)) i below p.1) u)) many_not_zero);
+          (row_of rows j)) i below p.1) u)) many_not_zero);
     })
     p.0 c.1
 expand_bytes_easing stage ranges _ change is = absurd (none-some change is)
