@@ -38,7 +38,7 @@ plus_exact row column k total t z so_far h =
     (λ p product f. ap (λ q. t +ℚ q) (checked_product-exact (fraction_in row k) (column k) p product) ∙ ap (λ q. q +ℚ p) (so_far x is)
     ∙ checked_sum-exact x p z f))
 
-exact_dot : List ℚ → (ℕ → ℚ) → ℚ
+unfoldable pub exact_dot : List ℚ → (ℕ → ℚ) → ℚ
 exact_dot row column =
     nat 0 +ℚ fraction_in row 0 *ℚ column 0 +ℚ fraction_in row 1 *ℚ column 1 +ℚ fraction_in row 2 *ℚ column 2 +ℚ fraction_in row 3 *ℚ column
     3
@@ -49,12 +49,12 @@ dot_exact row column z h =
     plus_exact row column 3 _ _ z (λ c hc. plus_exact row column 2 _ _ c (λ b hb. plus_exact row column 1 _ _ b
     (λ a ha. plus_exact row column 0 (Some (nat 0)) (nat 0) a (λ x e. same_Some (nat 0) x e) ha) hb) hc) h
 
-exact_row : List ℚ → List (List ℚ) → List ℚ
+unfoldable pub exact_row : List ℚ → List (List ℚ) → List ℚ
 exact_row row rows =
     exact_dot row (column_of rows 0) ∷ exact_dot row (column_of rows 1) ∷ exact_dot row (column_of rows 2) ∷ exact_dot row
     (column_of rows 3) ∷ (exact_dot row (column_of rows 4) +ℚ fraction_in row 4) ∷ []
 
-row_exact : (row : List ℚ) (rows : List (List ℚ)) (out : List ℚ) → joined_row row rows ≡ Some out → exact_row row rows ≡ out
+pub row_exact : (row : List ℚ) (rows : List (List ℚ)) (out : List ℚ) → joined_row row rows ≡ Some out → exact_row row rows ≡ out
 unfolding joined_row exact_row
 row_exact row rows out h =
     option_and_then_some _ (checked_dot row (column_of rows 0)) out h (λ a pa ha. option_and_then_some _ (checked_dot row

@@ -21,3 +21,12 @@ pub mod Places
 pub mod Normals
 pub mod PutTogether
 pub mod AlongPlaces
+pub mod PeakMultiples
+pub mod PeakSteps
+pub mod PeakFronts
+pub mod PeakTidy
+pub mod PeakPasses
+pub mod PeakTrims
+pub mod PeakResets
+pub mod PeakJoins
+pub mod PeakLaws

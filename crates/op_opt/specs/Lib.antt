@@ -18,3 +18,4 @@ pub mod CancelPacking
 pub mod Passes
 pub mod Normal
 pub mod Laws
+pub mod Peak
