@@ -1,6 +1,6 @@
 -- What each operation of a conversion does to four fractions.
-use Rattle.std.proofs.Common.{◌≡◌, ℕ, ⊎_elim, Bool, true, false, not, if◌then◌else◌, pos, List, [], ◌∷◌, refl, ap, ◌∙◌}
-use Rattle.std.proofs.lemmas.Bool.{cases_Bool, and_parts}
+use Rattle.std.proofs.Common.{◌≡◌, ℕ, zero, suc, ◌<◌, Bool, true, false, not, if◌then◌else◌, pos, List, [], ◌∷◌, refl, ap, ◌∙◌, arith}
+use Rattle.std.proofs.lemmas.Bool.{and_parts}
 use Rattle.frac_math.specs.Fraction.{ℚ, nat, ◌*ℚ◌, ◌+ℚ◌, ◌/ℚ◌, inverse, neg_ℚ}
 use Rattle.frac_math.proofs.Ring.{var, num, ◌⊕◌, ◌⊖◌, ◌⊗◌, minus, ring}
 use Rattle.frac_math.proofs.FractionRing.{fractions, equal_is}
@@ -22,6 +22,7 @@ use Rattle.op_list.specs.Values.{four}
 use Rattle.op_list.specs.Apply.{apply}
 use Rattle.op_list.specs.Run.{run_from}
 use Rattle.op_list.specs.Typing.{stage_after, stage_from}
+use Rattle.op_list.proofs.Four.{same_four}
 use Rattle.pix_meaning.specs.Channels.{channel_levels}
 use Rattle.op_build.specs.Recipe.{only_if, are_plain, diagonal, over_three, from_codes, to_codes}
 
@@ -64,126 +65,97 @@ diagonal_applied frame position stage scale constant f =
 -- ---- levels of one scale without bases
 
 record IsPlain (l : ℕ → Levels) : Type 0 where
-  pub scale1 : (l 1).scale ≡ (l 0).scale
-  pub scale2 : (l 2).scale ≡ (l 0).scale
-  pub scale3 : (l 3).scale ≡ (l 0).scale
-  pub base0 : (l 0).base ≡ nat 0
-  pub base1 : (l 1).base ≡ nat 0
-  pub base2 : (l 2).base ≡ nat 0
-  pub base3 : (l 3).base ≡ nat 0
+  scale : (c : ℕ) → c < 4 → (l c).scale ≡ (l 0).scale
+  base : (c : ℕ) → c < 4 → (l c).base ≡ nat 0
 
-plain_is : (side : Side) → are_plain (channel_levels side) ≡ true → IsPlain (channel_levels side)
-plain_is side h =
+plain_is : (l : ℕ → Levels) → are_plain l ≡ true → IsPlain l
+plain_is l h =
     let p6 = and_parts _ _ h in let p5 = and_parts _ _ p6.0 in let p4 = and_parts _ _ p5.0 in
     let p3 = and_parts _ _ p4.0 in let p2 = and_parts _ _ p3.0 in let p1 = and_parts _ _ p2.0 in
     record {
-      scale1 = equal_is _ _ p1.0;
-      scale2 = equal_is _ _ p1.1;
-      scale3 = equal_is _ _ p2.1;
-      base0 = equal_is _ _ p3.1;
-      base1 = equal_is _ _ p4.1;
-      base2 = equal_is _ _ p5.1;
-      base3 = equal_is _ _ p6.1;
+      scale = for_four (λ c. (l c).scale ≡ (l 0).scale) refl (equal_is _ _ p1.0) (equal_is _ _ p1.1) (equal_is _ _ p2.1);
+      base = for_four (λ c. (l c).base ≡ nat 0) (equal_is _ _ p3.1) (equal_is _ _ p4.1) (equal_is _ _ p5.1) (equal_is _ _ p6.1);
     }
+  where
+    for_four : (P : ℕ → Type 0) → P 0 → P 1 → P 2 → P 3 → (c : ℕ) → c < 4 → P c
+    for_four P a b d e zero below = a
+    for_four P a b d e (suc zero) below = b
+    for_four P a b d e (suc (suc zero)) below = d
+    for_four P a b d e (suc (suc (suc zero))) below = e
+    for_four P a b d e (suc (suc (suc (suc c)))) below = absurd (omega arith)
 
-scaled_from : (l : Levels) (x s : ℚ) → l.scale ≡ s → l.base ≡ nat 0 → x *ℚ (nat 1 /ℚ s) ≡ from_code l x
-unfolding from_code
-scaled_from l x s p q =
-    rw (p, q) (ring fractions (x ∷ inverse s ∷ []) (var 0 ⊗ (num (pos 1) ⊗ var 1)) ((var 0 ⊖ num (pos 0)) ⊗ var 1) refl)
+-- ---- one multiple and one constant for each value, by whichever operation
 
-scaled_to : (l : Levels) (e s : ℚ) → l.scale ≡ s → l.base ≡ nat 0 → e *ℚ s ≡ to_code l e
-unfolding to_code
-scaled_to l e s p q = rw (p, q) (ring fractions (e ∷ s ∷ []) (var 0 ⊗ var 1) (var 1 ⊗ var 0 ⊕ num (pos 0)) refl)
+-- all four multiples are the first, and all constants are 0
+record IsScale (scale constant : ℕ → ℚ) : Type 0 where
+  multiple : (c : ℕ) → c < 4 → scale c ≡ scale 0
+  none : (c : ℕ) → c < 4 → constant c ≡ nat 0
+
+abbrev affine : Bool → (ℕ → ℚ) → (ℕ → ℚ) → Op
+affine plain scale constant = if plain then Scale (scale 0) else Linear (diagonal scale constant)
+
+scaled : (scale constant f : ℕ → ℚ) (c : ℕ) → IsScale scale constant → c < 4 → f c *ℚ scale 0 ≡ scale c *ℚ f c +ℚ constant c
+scaled scale constant f c is below =
+    rw (is.multiple c below, is.none c below)
+    (ring fractions (f c ∷ scale 0 ∷ []) (var 0 ⊗ var 1) (var 1 ⊗ var 0 ⊕ num (pos 0)) refl)
+
+affine_applied : (frame : List ℕ) (position : PixelPosition) (stage : Stage) (plain : Bool) (scale constant f : ℕ → ℚ)
+    → (plain ≡ true → IsScale scale constant)
+    → apply frame position stage (affine plain scale constant) (Fractions (four f)) ≡ Fractions (four (λ c. scale c *ℚ f c +ℚ constant c))
+unfolding apply
+affine_applied frame position stage true scale constant f is =
+    ap Fractions (same_four (λ c. f c *ℚ scale 0) (λ c. scale c *ℚ f c +ℚ constant c) (λ c below. scaled scale constant f c (is refl) below))
+affine_applied frame position stage false scale constant f is = diagonal_applied frame position stage scale constant f
+
+affine-stage : (stage : Stage) (plain : Bool) (scale constant : ℕ → ℚ) → stage_after stage (affine plain scale constant) ≡ stage
+unfolding stage_after
+affine-stage stage true scale constant = refl
+affine-stage stage false scale constant = refl
+
+-- ---- from codes to values, and back
+
+from_scale : (l : ℕ → Levels) → IsPlain l → IsScale (λ c. nat 1 /ℚ (l c).scale) (λ c. neg_ℚ (l c).base /ℚ (l c).scale)
+from_scale l is = record {
+  multiple = λ c below. ap (λ s. nat 1 /ℚ s) (is.scale c below);
+  none =
+      λ c below. ap (λ b. neg_ℚ b /ℚ (l c).scale) (is.base c below)
+      ∙ ring fractions (inverse (l c).scale ∷ []) (minus (num (pos 0)) ⊗ var 0) (num (pos 0)) refl;
+}
 
 linear_from : (l : Levels) (x : ℚ) → nat 1 /ℚ l.scale *ℚ x +ℚ neg_ℚ l.base /ℚ l.scale ≡ from_code l x
 unfolding from_code
 linear_from l x =
     ring fractions (x ∷ l.base ∷ inverse l.scale ∷ []) (num (pos 1) ⊗ var 2 ⊗ var 0 ⊕ minus (var 1) ⊗ var 2) ((var 0 ⊖ var 1) ⊗ var 2) refl
 
-linear_to : (l : Levels) (e : ℚ) → l.scale *ℚ e +ℚ l.base ≡ to_code l e
-unfolding to_code
-linear_to l e = refl
-
--- ---- from codes to values, and back, by whichever operation
-
-abbrev from_op : Bool → (ℕ → Levels) → Op
-from_op plain l =
-    if plain then Scale (nat 1 /ℚ (l 0).scale) else Linear (diagonal (λ c. nat 1 /ℚ (l c).scale) (λ c. neg_ℚ (l c).base /ℚ (l c).scale))
-
-abbrev to_op : Bool → (ℕ → Levels) → Op
-to_op plain l = if plain then Scale (l 0).scale else Linear (diagonal (λ c. (l c).scale) (λ c. (l c).base))
-
-from_plain : (frame : List ℕ) (position : PixelPosition) (stage : Stage) (l : ℕ → Levels) (f : ℕ → ℚ) → IsPlain l
-    → apply frame position stage (from_op true l) (Fractions (four f)) ≡ Fractions (four (λ c. from_code (l c) (f c)))
-unfolding apply
-from_plain frame position stage l f p =
-    same_fractions _ _ _ _ _ _ _ _
-    (scaled_from (l 0) (f 0) (l 0).scale refl p.base0)
-    (scaled_from (l 1) (f 1) (l 0).scale p.scale1 p.base1)
-    (scaled_from (l 2) (f 2) (l 0).scale p.scale2 p.base2)
-    (scaled_from (l 3) (f 3) (l 0).scale p.scale3 p.base3)
-
-from_linear : (frame : List ℕ) (position : PixelPosition) (stage : Stage) (l : ℕ → Levels) (f : ℕ → ℚ)
-    → apply frame position stage (from_op false l) (Fractions (four f)) ≡ Fractions (four (λ c. from_code (l c) (f c)))
-from_linear frame position stage l f =
-    diagonal_applied frame position stage (λ c. nat 1 /ℚ (l c).scale) (λ c. neg_ℚ (l c).base /ℚ (l c).scale) f
-    ∙ same_fractions _ _ _ _ _ _ _ _ (linear_from (l 0) (f 0)) (linear_from (l 1) (f 1)) (linear_from (l 2) (f 2)) (linear_from (l 3) (f 3))
-
 pub from_codes-applied : (frame : List ℕ) (position : PixelPosition) (stage : Stage) (side : Side) (f : ℕ → ℚ)
     → apply frame position stage (from_codes side) (Fractions (four f)) ≡ Fractions (four (λ c. from_code (channel_levels side c) (f c)))
 unfolding from_codes
 from_codes-applied frame position stage side f =
-    ⊎_elim
-    (λ (plain : are_plain (channel_levels side) ≡ true).
-    ap (λ b. apply frame position stage (from_op b (channel_levels side)) (Fractions (four f))) plain
-    ∙ from_plain frame position stage (channel_levels side) f (plain_is side plain))
-    (λ (not_plain : are_plain (channel_levels side) ≡ false).
-    ap (λ b. apply frame position stage (from_op b (channel_levels side)) (Fractions (four f))) not_plain
-    ∙ from_linear frame position stage (channel_levels side) f)
-    (cases_Bool (are_plain (channel_levels side)))
-
-to_plain : (frame : List ℕ) (position : PixelPosition) (stage : Stage) (l : ℕ → Levels) (f : ℕ → ℚ) → IsPlain l
-    → apply frame position stage (to_op true l) (Fractions (four f)) ≡ Fractions (four (λ c. to_code (l c) (f c)))
-unfolding apply
-to_plain frame position stage l f p =
-    same_fractions _ _ _ _ _ _ _ _
-    (scaled_to (l 0) (f 0) (l 0).scale refl p.base0)
-    (scaled_to (l 1) (f 1) (l 0).scale p.scale1 p.base1)
-    (scaled_to (l 2) (f 2) (l 0).scale p.scale2 p.base2)
-    (scaled_to (l 3) (f 3) (l 0).scale p.scale3 p.base3)
-
-to_linear : (frame : List ℕ) (position : PixelPosition) (stage : Stage) (l : ℕ → Levels) (f : ℕ → ℚ)
-    → apply frame position stage (to_op false l) (Fractions (four f)) ≡ Fractions (four (λ c. to_code (l c) (f c)))
-to_linear frame position stage l f =
-    diagonal_applied frame position stage (λ c. (l c).scale) (λ c. (l c).base) f
-    ∙ same_fractions _ _ _ _ _ _ _ _ (linear_to (l 0) (f 0)) (linear_to (l 1) (f 1)) (linear_to (l 2) (f 2)) (linear_to (l 3) (f 3))
+    let l = channel_levels side in
+    affine_applied frame position stage (are_plain l) (λ c. nat 1 /ℚ (l c).scale) (λ c. neg_ℚ (l c).base /ℚ (l c).scale) f
+    (λ plain. from_scale l (plain_is l plain))
+    ∙ ap Fractions (same_four (λ c. nat 1 /ℚ (l c).scale *ℚ f c +ℚ neg_ℚ (l c).base /ℚ (l c).scale) (λ c. from_code (l c) (f c))
+    (λ c below. linear_from (l c) (f c)))
 
 pub to_codes-applied : (frame : List ℕ) (position : PixelPosition) (stage : Stage) (side : Side) (f : ℕ → ℚ)
     → apply frame position stage (to_codes side) (Fractions (four f)) ≡ Fractions (four (λ c. to_code (channel_levels side c) (f c)))
-unfolding to_codes
+unfolding to_codes to_code
 to_codes-applied frame position stage side f =
-    ⊎_elim
-    (λ (plain : are_plain (channel_levels side) ≡ true).
-    ap (λ b. apply frame position stage (to_op b (channel_levels side)) (Fractions (four f))) plain
-    ∙ to_plain frame position stage (channel_levels side) f (plain_is side plain))
-    (λ (not_plain : are_plain (channel_levels side) ≡ false).
-    ap (λ b. apply frame position stage (to_op b (channel_levels side)) (Fractions (four f))) not_plain
-    ∙ to_linear frame position stage (channel_levels side) f)
-    (cases_Bool (are_plain (channel_levels side)))
+    let l = channel_levels side in
+    affine_applied frame position stage (are_plain l) (λ c. (l c).scale) (λ c. (l c).base) f
+    (λ plain. let is = plain_is l plain in record { multiple = is.scale; none = is.base })
 
--- ---- neither changes the type
-
+-- neither changes the type
 pub from_codes-stage : (stage : Stage) (side : Side) → stage_after stage (from_codes side) ≡ stage
-unfolding from_codes stage_after
+unfolding from_codes
 from_codes-stage stage side =
-    elim (are_plain (channel_levels side)) as
-    (λ b. stage_after stage (from_op b (channel_levels side)) ≡ stage) [ true ↦ refl | false ↦ refl ]
+    let l = channel_levels side in
+    affine-stage stage (are_plain l) (λ c. nat 1 /ℚ (l c).scale) (λ c. neg_ℚ (l c).base /ℚ (l c).scale)
 
 pub to_codes-stage : (stage : Stage) (side : Side) → stage_after stage (to_codes side) ≡ stage
-unfolding to_codes stage_after
+unfolding to_codes
 to_codes-stage stage side =
-    elim (are_plain (channel_levels side)) as
-    (λ b. stage_after stage (to_op b (channel_levels side)) ≡ stage) [ true ↦ refl | false ↦ refl ]
+    let l = channel_levels side in affine-stage stage (are_plain l) (λ c. (l c).scale) (λ c. (l c).base)
 
 -- ---- rows over the first three values
 

@@ -4,9 +4,9 @@ use Rattle.std.proofs.Common.{All, get_or, sym, refl, ap, subst, ◌∙◌, arit
 use Rattle.std.specs.Prelude.{sum}
 use Rattle.std.proofs.lemmas.Bool.{cases_eq, cond-true, cond-false, eq-eqb, ne_eqb}
 use Rattle.pix_desc.specs.declared.desc.Desc.{Desc}
-use Rattle.pix_desc.specs.Component.{component_of, first_byte, count_of}
+use Rattle.pix_desc.specs.Component.{component_of}
 use Rattle.pix_desc.specs.Frame.{frame_component}
-use Rattle.pix_desc.specs.Layouts.{IsValid, is_elements, word_shift}
+use Rattle.pix_desc.specs.Layouts.{IsValid, is_elements}
 use Rattle.pix_desc.proofs.BitPositions.{byte_below}
 use Rattle.pix_desc.proofs.Valid.{laid_out}
 use Rattle.pix_meaning.specs.Pairs.{component_at}
@@ -22,8 +22,9 @@ use Rattle.op_list.specs.Whole.{field, bits_below}
 use Rattle.op_list.specs.Pixel.{number_at, element_in, pixel_count, pixel_number}
 use Rattle.op_list.specs.Apply.{cleared, swizzled}
 use Rattle.op_list.specs.Run.{run_from}
+use Rattle.op_list.proofs.Stored.{element_of-is}
 use Rattle.op_list.specs.Typing.{stage_from}
-use Rattle.pix_desc.specs.Shape.{element_bytes, element_counts, element_index, field_widths, position_of}
+use Rattle.pix_desc.specs.Shape.{element_counts, field_widths, position_of}
 use Rattle.op_build.specs.ElementType.{element_type, is_swapped}
 use Rattle.op_build.specs.Recipe.{decode, split, channel_slots, missing_codes}
 use Rattle.op_build.proofs.ByteNumbers.{in_order, one_byte_in_order}
@@ -31,11 +32,12 @@ use Rattle.pix_meaning.proofs.ChannelCodes.{code_of-there, code_of-missing, plai
 use Rattle.op_build.proofs.Codes.{in_channels}
 use Rattle.pix_meaning.specs.Channels.{code_of}
 use Rattle.op_build.proofs.DecodeRuns.{decode_by, ordered_element, run_shifts, run_fields, stage_shifts, stage_fields}
-use Rattle.pix_desc.proofs.ElementSlots.{HasElements, element_index-below}
-use Rattle.op_build.proofs.ElementStarts.{element_of_at, element_begins, word_begins}
-use Rattle.op_build.proofs.FieldValues.{pixel_start, element_field, word_field, shifted_field}
-use Rattle.pix_desc.proofs.PixelSlots.{first_size, has_layout, has_slots, element_position, component_field}
-use Rattle.op_build.proofs.ElementTypes.{HasType, element_type_is, word_type_is}
+use Rattle.pix_desc.proofs.ElementSlots.{HasElements}
+use Rattle.op_build.proofs.FieldValues.{shifted_field}
+use Rattle.op_build.proofs.NumberBits.{number_of, component_number}
+use Rattle.op_build.proofs.SlotBits.{SlotBits, AreSlotBits, lowest_bit, element_bits, are_element_bits, field_bits, are_field_bits}
+use Rattle.pix_desc.proofs.PixelSlots.{first_size, has_layout, has_slots, component_field}
+use Rattle.op_build.proofs.ElementTypes.{has_type}
 use Rattle.pix_desc.proofs.WordBits.{number_end}
 use Rattle.pix_desc.proofs.WordShape.{HasWord}
 
@@ -52,21 +54,6 @@ swap_needed frame true size at bytes =
     (λ more. ap (λ b. in_order (not b) size number) (ne_eqb size 1 more))
     (cases_eq size 1)
 
--- an element in the format's byte order, where it begins
-ordered_is : (desc : Desc) (frame counts : List ℕ) (position : PixelPosition) (i at size : ℕ) → HasType desc
-    → ((k : ℕ) → get_or frame k 0 < 256) → element_bytes desc ≡ size
-    → i < sum counts → element_in (pixel_count position) (pixel_number position) 0 counts i * size ≡ at
-    → ordered_element (element_type desc) counts (is_swapped desc) frame position i ≡ in_order desc.be size (number_at size frame at)
-ordered_is desc frame counts position i at size typed small size_is within begins =
-    let elem = element_type desc in
-    let bytes_are : bytes elem ≡ size = typed.bytes ∙ size_is in
-    ap (in_order (is_swapped desc) (bytes elem))
-    (element_of_at elem counts frame position i at within
-    (ap (λ s. element_in (pixel_count position) (pixel_number position) 0 counts i * s) bytes_are ∙ begins))
-    ∙ ap (λ s. in_order (is_swapped desc) s (number_at s frame at)) bytes_are
-    ∙ ap (λ b. in_order b size (number_at size frame at)) (typed.swapped ∙ ap (λ s. desc.be && not (nat_eq s 1)) size_is)
-    ∙ swap_needed frame desc.be size at small
-
 module _ (desc : Desc) (frame : List ℕ) (position : PixelPosition) (valid : IsValid desc) (all_bytes : All (λ byte. byte < 256) frame) where
   component_here : ℕ → ℕ
   component_here j = frame_component desc position.width position.rows frame j position.x position.row
@@ -74,70 +61,66 @@ module _ (desc : Desc) (frame : List ℕ) (position : PixelPosition) (valid : Is
   small : (k : ℕ) → get_or frame k 0 < 256
   small k = byte_below frame k all_bytes
 
+  -- an element in the format's byte order
+  abbrev ordered : ℕ → ℕ
+  ordered i = ordered_element (element_type desc) (element_counts desc) (is_swapped desc) frame position i
+
+  module _ (s : SlotBits) (is : AreSlotBits desc s) where
+    ordered_is : (i : ℕ) → i < sum (element_counts desc) → ordered i ≡ number_of desc valid s is frame position all_bytes i
+    ordered_is i within =
+        let typed = has_type desc valid in
+        let elem = element_type desc in
+        let size = s.size in
+        let bytes_are : bytes elem ≡ size = typed.bytes ∙ is.bytes in
+        let at = element_in (pixel_count position) (pixel_number position) 0 (element_counts desc) i in
+        ap (in_order (is_swapped desc) (bytes elem)) (element_of-is elem (element_counts desc) frame position i within)
+        ∙ ap (λ t. in_order (is_swapped desc) t (number_at t frame (at * t))) bytes_are
+        ∙ ap (λ b. in_order b size (number_at size frame (at * size))) (typed.swapped ∙ ap (λ t. desc.be && not (nat_eq t 1)) is.bytes)
+        ∙ swap_needed frame desc.be size (at * size) small
+
+    -- a component is a field of its element
+    component_field_is : (j : ℕ) → j < desc.count
+        → ordered (s.element (position_of desc j)) / 2 ^ lowest_bit desc s j % 2 ^ (component_of desc j).depth ≡ component_here j
+    unfolding component_here
+    component_field_is j listed =
+        ap (λ n. n / 2 ^ lowest_bit desc s j % 2 ^ (component_of desc j).depth)
+        (ordered_is (s.element (position_of desc j)) (is.within (position_of desc j) ((has_slots desc valid).within j listed)))
+        ∙ component_number desc valid s is frame position all_bytes j listed
+
   -- ---- elements
 
   module _ (is : HasElements desc (first_size desc)) where
     abbrev shifted : ℕ → ℕ
     shifted i =
-        ordered_element (element_type desc) (element_counts desc) (is_swapped desc) frame position i
-        * 2 ^ (bits (element_type desc) - (component_of desc 0).shift - (component_of desc 0).depth) % 2 ^ bits (element_type desc) / 2 ^
-        (bits (element_type desc) - (component_of desc 0).depth)
+        ordered i * 2 ^ (bits (element_type desc) - (component_of desc 0).shift - (component_of desc 0).depth) % 2 ^ bits (element_type desc)
+        / 2 ^ (bits (element_type desc) - (component_of desc 0).depth)
 
     shifted_is : (j : ℕ) → j < desc.count → shifted (position_of desc j) ≡ component_here j
-    unfolding component_here
     shifted_is j listed =
         let laid = laid_out desc valid in
-        let size = first_size desc in
-        let typed = element_type_is desc is in
-        let c = component_of desc j in
         let first = component_of desc 0 in
-        let at = pixel_start desc position.width position.rows frame j position.x position.row laid all_bytes listed + count_of
-        (first_byte desc c) in
-        let index = element_index desc j in
-        let number = in_order desc.be size (number_at size frame at) in
+        let number = ordered (position_of desc j) in
+        let low : first.shift ≡ lowest_bit desc (element_bits desc) j = omega arith in
         let room : first.shift + first.depth ≤ bits (element_type desc) =
-        omega (arith, number_end desc laid 0 laid.some, typed.bits, is.bytes) in
-        ap shifted (element_position desc j laid is listed)
-        ∙ ap (λ n. n * 2 ^ (bits (element_type desc) - first.shift - first.depth) % 2 ^ bits (element_type desc) / 2 ^
-        (bits (element_type desc) - first.depth))
-        (ordered_is desc frame (element_counts desc) position index at size typed small is.bytes
-        (element_index-below desc size laid is j listed) (element_begins desc size laid is position j listed))
-        ∙ shifted_field number first.shift first.depth (bits (element_type desc)) room
-        ∙ ap (λ s. number / 2 ^ s % 2 ^ first.depth) (sym (is.shift j listed))
-        ∙ ap (λ d. number / 2 ^ c.shift % 2 ^ d) (sym (is.depth j listed))
-        ∙ ap (λ s. in_order desc.be s (number_at s frame at) / 2 ^ c.shift % 2 ^ c.depth) (sym (is.read j listed))
-        ∙ element_field desc position.width position.rows frame j position.x position.row laid all_bytes listed
+        omega (arith, number_end desc laid 0 laid.some, (has_type desc valid).bits, is.bytes) in
+        shifted_field number first.shift first.depth (bits (element_type desc)) room
+        ∙ ap (λ d. number / 2 ^ first.shift % 2 ^ d) (sym (is.depth j listed))
+        ∙ ap (λ t. number / 2 ^ t % 2 ^ (component_of desc j).depth) low
+        ∙ component_field_is (element_bits desc) (are_element_bits desc valid is) j listed
 
   -- ---- a word
 
   module _ (is : HasWord desc) where
     abbrev fielded : ℕ → ℕ
-    fielded i = field (field_widths desc) (ordered_element (element_type desc) (element_counts desc) (is_swapped desc) frame position 0) i
-
-    word_number : (j : ℕ) (listed : j < desc.count)
-        → ordered_element (element_type desc) (element_counts desc) (is_swapped desc) frame position 0
-        ≡ in_order desc.be (component_of desc j).step
-        (number_at (component_of desc j).step frame
-        (pixel_start desc position.width position.rows frame j position.x position.row (laid_out desc valid) all_bytes listed))
-    word_number j listed =
-        let size = (component_of desc j).step in
-        let at = pixel_start desc position.width position.rows frame j position.x position.row (laid_out desc valid) all_bytes listed in
-        ap (λ counts. ordered_element (element_type desc) counts (is_swapped desc) frame position 0) is.counts
-        ∙ ordered_is desc frame (1 ∷ 0 ∷ 0 ∷ 0 ∷ []) position 0 at size (word_type_is desc is) small (is.bytes ∙ sym (is.step j listed))
-        (omega arith)
-        (word_begins desc position.width position.rows j position.x position.row (laid_out desc valid) listed (is.plane j listed))
+    fielded i = field (field_widths desc) (ordered 0) i
 
     fielded_is : (j : ℕ) → j < desc.count → fielded (position_of desc j) ≡ component_here j
-    unfolding component_here
     fielded_is j listed =
-        let laid = laid_out desc valid in
-        let here = component_field desc j laid is listed in
-        let c = component_of desc j in
-        let number = ordered_element (element_type desc) (element_counts desc) (is_swapped desc) frame position 0 in
-        ap (λ w. number / 2 ^ bits_below (field_widths desc) (position_of desc j) % 2 ^ w) here.0
-        ∙ ap (λ b. number / 2 ^ b % 2 ^ c.depth) here.1
-        ∙ ap (λ n. n / 2 ^ word_shift desc c % 2 ^ c.depth) (word_number j listed)
-        ∙ word_field desc position.width position.rows frame j position.x position.row laid all_bytes listed
+        let below = bits_below (field_widths desc) (position_of desc j) in
+        let low : below ≡ below + 0 = omega arith in
+        ap (λ w. ordered 0 / 2 ^ below % 2 ^ w) (component_field desc j (laid_out desc valid) is listed).0
+        ∙ ap (λ t. ordered 0 / 2 ^ t % 2 ^ (component_of desc j).depth) low
+        ∙ component_field_is (field_bits desc) (are_field_bits desc valid is) j listed
 
   -- ---- the whole
 

@@ -6,26 +6,15 @@ use Rattle.std.proofs.lemmas.Bool.{cases_lt}
 use Rattle.std.proofs.lemmas.List.Sums.{sum_by-cons, sum_by_more}
 use Rattle.std.proofs.lemmas.Nat.{div-add-mod'}
 use Rattle.pix_desc.specs.declared.desc.Desc.{Desc}
-use Rattle.pix_desc.specs.Component.{component_of, first_byte, count_of}
+use Rattle.pix_desc.specs.Component.{component_of}
 use Rattle.pix_desc.specs.Frame.{plane_step, plane_start, row_start}
 use Rattle.pix_desc.specs.Layouts.{IsLaidOut}
 use Rattle.op_list.specs.declared.position.PixelPosition.{PixelPosition}
-use Rattle.op_list.specs.declared.types.PixType.{PixType}
-use Rattle.op_list.specs.Types.{bytes}
-use Rattle.op_list.specs.Pixel.{number_at, element_in, element_of, pixel_count, pixel_number}
+use Rattle.op_list.specs.Pixel.{element_in, pixel_count, pixel_number}
 use Rattle.op_list.proofs.Elements.{elements_in_order}
-use Rattle.op_list.proofs.Stored.{element_of-is}
-use Rattle.pix_desc.specs.Shape.{element_counts, element_index}
+use Rattle.pix_desc.specs.Shape.{element_bytes, element_counts}
 use Rattle.pix_desc.proofs.ElementCounts.{count_at, length-counts}
-use Rattle.pix_desc.proofs.ElementSlots.{HasElements, element_index_is, first_in_plane}
 use Rattle.pix_desc.proofs.PlaneSteps.{component_in}
-
--- an element of a pixel is the number of the bytes where it begins
-pub element_of_at : (elem : PixType) (planes frame : List ℕ) (position : PixelPosition) (i at : ℕ) → i < sum planes
-    → element_in (pixel_count position) (pixel_number position) 0 planes i * bytes elem ≡ at
-    → element_of elem planes frame position i ≡ number_at (bytes elem) frame at
-element_of_at elem planes frame position i at within begins =
-    element_of-is elem planes frame position i within ∙ ap (number_at (bytes elem) frame) begins
 
 -- Element i of a pixel is element r of those in plane p.
 pub record IsInPlane (ns : List ℕ) (i p r : ℕ) : Type 0 where
@@ -57,7 +46,8 @@ in_bytes : (width rows row x size before count rest step : ℕ) → count * size
     ≡ width * rows * (before * size) + row * (width * step) + x * step + rest * size
 in_bytes width rows row x size before count rest step steps = omega (arith, ap (λ t. row * (width * t)) steps, ap (λ t. x * t) steps)
 
-module _ (desc : Desc) (size : ℕ) (laid : IsLaidOut desc) (is : HasElements desc size) where
+module _ (desc : Desc) (size : ℕ) (laid : IsLaidOut desc) (bytes_are : element_bytes desc ≡ size)
+    (whole : (j : ℕ) → j < desc.count → (component_of desc j).step % size ≡ 0) where
   -- the bytes of a pixel in a plane are whole elements
   pub whole_steps : (plane : ℕ) → plane_step desc plane / size * size ≡ plane_step desc plane
   whole_steps plane =
@@ -66,7 +56,7 @@ module _ (desc : Desc) (size : ℕ) (laid : IsLaidOut desc) (is : HasElements de
       (λ (some : 0 < plane_step desc plane).
       let at = component_in desc plane some in
       let step : plane_step desc plane ≡ (component_of desc at.0).step = ap (plane_step desc) (sym at.2) ∙ laid.step at.0 at.1 in
-      omega (arith, div-add-mod' (plane_step desc plane) size, ap (λ s. s % size) step, is.step at.0 at.1))
+      omega (arith, div-add-mod' (plane_step desc plane) size, ap (λ s. s % size) step, whole at.0 at.1))
       (eq-zero-or-pos (plane_step desc plane))
 
   pub plane_start_is : (width rows plane : ℕ) → plane ≤ 4
@@ -77,7 +67,7 @@ module _ (desc : Desc) (size : ℕ) (laid : IsLaidOut desc) (is : HasElements de
       let count = plane_step desc plane / size in
       let next : suc plane ≡ plane + 1 = omega arith in
       let listed : plane < length (element_counts desc) = omega (arith, length-counts desc) in
-      let here = count_at desc size plane is.bytes (omega arith) in
+      let here = count_at desc size plane bytes_are (omega arith) in
       let more : sum (take (suc plane) (element_counts desc)) ≡ before + count =
       ap (λ t. sum (take t (element_counts desc))) next ∙ sum_by_more (λ n. n) (element_counts desc) plane 0 listed
       ∙ ap (λ t. before + t) here in
@@ -98,36 +88,12 @@ module _ (desc : Desc) (size : ℕ) (laid : IsLaidOut desc) (is : HasElements de
       let counts = element_counts desc in
       let before = sum (take p counts) in
       let below : p < 4 = omega (arith, there.plane, length-counts desc) in
-      let steps : get_or counts p 0 * size ≡ step = ap (λ t. t * size) (count_at desc size p is.bytes below) ∙ whole_steps p in
+      let steps : get_or counts p 0 * size ≡ step = ap (λ t. t * size) (count_at desc size p bytes_are below) ∙ whole_steps p in
       ap (λ k. element_in (pixel_count position) (pixel_number position) 0 counts k * size) there.index
       ∙ ap (λ t. t * size) (elements_in_order (pixel_count position) (pixel_number position) counts p r there.inside)
       ∙ in_bytes position.width position.rows position.row position.x size before (get_or counts p 0) r step steps
       ∙ ap (λ t. t + position.row * (position.width * step) + position.x * step + r * size)
       (sym (plane_start_is position.width position.rows p (omega arith)))
-
-  -- the plane of the element that holds a component
-  pub component_in_plane : (j : ℕ) → j < desc.count
-      → IsInPlane (element_counts desc) (element_index desc j) (component_of desc j).plane
-      (count_of (first_byte desc (component_of desc j)) / size)
-  component_in_plane j listed = record {
-    plane = omega (arith, length-counts desc, laid.plane j listed);
-    inside = first_in_plane desc size laid is j listed;
-    index = element_index_is desc size laid is j;
-  }
-
-  -- it begins where the component's first byte stands
-  pub element_begins : (position : PixelPosition) (j : ℕ) → j < desc.count
-      → element_in (pixel_count position) (pixel_number position) 0 (element_counts desc) (element_index desc j) * size
-      ≡ row_start desc position.width position.rows (component_of desc j).plane position.row + position.x *
-      (component_of desc j).step + count_of (first_byte desc (component_of desc j))
-  element_begins position j listed =
-      let c = component_of desc j in
-      let first = count_of (first_byte desc c) in
-      let start = row_start desc position.width position.rows c.plane position.row in
-      let firsts : first / size * size ≡ first = omega (arith, div-add-mod' first size, is.first j listed) in
-      element_starts position (element_index desc j) c.plane (first / size) (component_in_plane j listed)
-      ∙ ap (λ s. start + position.x * s + first / size * size) (laid.step j listed)
-      ∙ ap (λ t. start + position.x * c.step + t) firsts
 
 -- and the word of a pixel behind those of the pixels before it
 pub word_begins : (desc : Desc) (width rows j x row : ℕ) → IsLaidOut desc → j < desc.count → (component_of desc j).plane ≡ 0

@@ -1,12 +1,10 @@
 -- The number of some bytes, turned round for the format's byte order, and turned back.
-use Rattle.std.proofs.Common.{◌≡◌, ℕ, suc, ◌+◌, ◌*◌, ◌/◌, ◌%◌, ◌^◌, ◌<◌, ◌⊎◌, ⊎_elim, Bool, true, false, not, ◌&&◌, nat_eq, List, get_or}
+use Rattle.std.proofs.Common.{◌≡◌, ℕ, suc, ◌+◌, ◌*◌, ◌/◌, ◌%◌, ◌^◌, ◌<◌, ⊎_elim, Bool, true, false, not, ◌&&◌, nat_eq, List, get_or}
 use Rattle.std.proofs.Common.{sym, refl, ap, subst, ◌∙◌, arith}
+use Rattle.pix_desc.proofs.PixelSlots.{IsSize}
 use Rattle.op_list.specs.Pixel.{number_at}
 use Rattle.op_list.specs.Whole.{reversed_bytes}
 use Rattle.op_build.proofs.ByteNumbers.{in_order, one_byte_in_order}
-
-abbrev pub IsSize : ℕ → Type 0
-IsSize size = (size ≡ 1) ⊎ ((size ≡ 2) ⊎ (size ≡ 4))
 
 -- the lowest byte becomes the highest
 reversed_step : (count low high : ℕ) → low < 256

@@ -6,12 +6,12 @@ use Rattle.std.proofs.lemmas.Nat.Bits.{same_from_bits_below}
 use Rattle.pix_desc.specs.declared.desc.Desc.{Desc}
 use Rattle.pix_desc.specs.Component.{component_of, bytes_read, first_byte, count_of, bit_of}
 use Rattle.pix_desc.specs.Frame.{row_start, frame_component}
-use Rattle.pix_desc.specs.Layouts.{IsLaidOut, word_shift}
+use Rattle.pix_desc.specs.Layouts.{IsLaidOut}
 use Rattle.pix_desc.proofs.Bits.{bit_at_field}
 use Rattle.pix_desc.proofs.BitPositions.{position_of, bit_position_is, byte_below, frame_bit, frame_component_below}
 use Rattle.op_list.specs.Pixel.{number_at}
 use Rattle.op_build.proofs.ByteNumbers.{in_order, bit_at_in_order}
-use Rattle.pix_desc.proofs.WordBits.{bit_in_order, word_bit_position, word_end, number_bit_position, number_end}
+use Rattle.pix_desc.proofs.WordBits.{bit_in_order, number_bit_position, number_end}
 
 module _ (desc : Desc) (width rows : ℕ) (frame : List ℕ) (j x row : ℕ) (laid : IsLaidOut desc) (bytes : All (λ byte. byte < 256) frame)
     (listed : j < desc.count) where
@@ -20,7 +20,7 @@ module _ (desc : Desc) (width rows : ℕ) (frame : List ℕ) (j x row : ℕ) (la
   pixel_start = row_start desc width rows (component_of desc j).plane row + x * (component_of desc j).step
 
   -- a field that has the component's bits, in order
-  same_field : (count at shift : ℕ) → shift + (component_of desc j).depth ≤ 8 * count
+  pub same_field : (count at shift : ℕ) → shift + (component_of desc j).depth ≤ 8 * count
       → ((i : ℕ) → i < (component_of desc j).depth → 8 * at + bit_in_order desc.be count (shift + i) ≡ 8 * pixel_start + position_of desc
       (component_of desc j) ((component_of desc j).shift + i))
       → in_order desc.be count (number_at count frame at) / 2 ^ shift % 2 ^ (component_of desc j).depth
@@ -45,14 +45,6 @@ module _ (desc : Desc) (width rows : ℕ) (frame : List ℕ) (j x row : ℕ) (la
       let c = component_of desc j in
       same_field (bytes_read c) (pixel_start + count_of (first_byte desc c)) c.shift (number_end desc laid j listed)
       (λ i inside. omega (arith, number_bit_position desc laid j listed i inside))
-
-  -- of the whole word
-  pub word_field : in_order desc.be (component_of desc j).step (number_at (component_of desc j).step frame pixel_start)
-      / 2 ^ word_shift desc (component_of desc j) % 2 ^ (component_of desc j).depth ≡ frame_component desc width rows frame j x row
-  word_field =
-      let c = component_of desc j in
-      same_field c.step pixel_start (word_shift desc c) (word_end desc laid j listed)
-      (λ i inside. ap (λ k. 8 * pixel_start + k) (sym (word_bit_position desc laid j listed i inside)))
 
 -- up to the top of a type of so many bits and down again leaves a field of a number
 pub shifted_field : (n shift depth size : ℕ) → shift + depth ≤ size

@@ -7,7 +7,7 @@ use Rattle.std.proofs.lemmas.List.{append_assoc}
 use Rattle.pix_desc.specs.declared.desc.Desc.{Desc}
 use Rattle.pix_desc.specs.Component.{component_of}
 use Rattle.pix_desc.specs.Frame.{plane_step, plane_start, frame_length}
-use Rattle.pix_desc.specs.Layouts.{IsValid, IsLaidOut, is_count, is_elements}
+use Rattle.pix_desc.specs.Layouts.{IsValid, is_count, is_elements}
 use Rattle.pix_desc.proofs.FrameExists.{frame_length_is}
 use Rattle.pix_desc.proofs.Valid.{has_no_fault, laid_out}
 use Rattle.pix_meaning.specs.declared.pair.Pair.{Pair}
@@ -22,20 +22,15 @@ use Rattle.op_build.specs.ElementType.{element_type, is_swapped}
 use Rattle.op_build.proofs.DecodePalette as palette
 use Rattle.op_build.proofs.DecodePalette.{is_byte_format}
 use Rattle.op_build.proofs.DecodePlain as plain
-use Rattle.pix_desc.proofs.ElementSlots.{HasElements}
 use Rattle.op_build.proofs.ElementStarts.{plane_start_is}
 use Rattle.pix_desc.proofs.PlaneSteps.{component_in}
 use Rattle.op_list.specs.Run.{write_length}
 use Rattle.op_list.proofs.Wholes.{ends_with_write-append, write_length-append}
 use Rattle.op_build.proofs.ReadLengths.{elements_length, palette_length, written_length}
-use Rattle.pix_desc.proofs.PixelSlots.{first_size, has_layout}
 use Rattle.op_build.proofs.ElementTypes.{has_type, element_counts_are_good}
-use Rattle.pix_desc.proofs.WordShape.{HasWord}
+use Rattle.op_build.proofs.SlotBits.{has_slot_bits}
 
 -- ---- the bytes of the planes
-
-word_step : (desc : Desc) → IsLaidOut desc → HasWord desc → plane_step desc 0 ≡ element_bytes desc
-word_step desc laid is = ap (plane_step desc) (sym (is.plane 0 laid.some)) ∙ laid.step 0 laid.some ∙ sym is.bytes
 
 -- where all components lie in the first plane, no other has bytes
 first_alone : (desc : Desc) (plane : ℕ) → ((j : ℕ) → j < desc.count → (component_of desc j).plane ≡ 0) → 0 < plane
@@ -57,30 +52,18 @@ one_plane desc width rows step first is =
       ap (λ t. rows * (width * t)) (first_alone desc 3 first (omega arith)),
     )
 
-word_planes : (desc : Desc) (width rows : ℕ) → IsLaidOut desc → HasWord desc
-    → plane_start desc width rows 4 ≡ width * rows * (sum (element_counts desc) * element_bytes desc)
-word_planes desc width rows laid is =
-    one_plane desc width rows (element_bytes desc) is.plane (word_step desc laid is)
-    ∙ ap (λ counts. width * rows * (sum counts * element_bytes desc)) (sym is.counts)
-
 four_taken : (desc : Desc) → sum (take 4 (element_counts desc)) ≡ sum (element_counts desc)
 unfolding element_counts
 four_taken desc = refl
 
-element_planes : (desc : Desc) (width rows : ℕ) → IsLaidOut desc → HasElements desc (first_size desc)
-    → plane_start desc width rows 4 ≡ width * rows * (sum (element_counts desc) * element_bytes desc)
-element_planes desc width rows laid is =
-    plane_start_is desc (first_size desc) laid is width rows 4 (omega arith)
-    ∙ ap (λ n. width * rows * (n * first_size desc)) (four_taken desc)
-    ∙ ap (λ s. width * rows * (sum (element_counts desc) * s)) (sym is.bytes)
-
 planes_are : (desc : Desc) (width rows : ℕ) → IsValid desc
     → plane_start desc width rows 4 ≡ width * rows * (sum (element_counts desc) * element_bytes desc)
 planes_are desc width rows valid =
-    ⊎_elim
-    (λ is. element_planes desc width rows (laid_out desc valid) is)
-    (λ is. word_planes desc width rows (laid_out desc valid) is)
-    (has_layout desc valid)
+    let slots = has_slot_bits desc valid in
+    let size = slots.0.size in
+    plane_start_is desc size (laid_out desc valid) slots.1.bytes slots.1.step width rows 4 (omega arith)
+    ∙ ap (λ n. width * rows * (n * size)) (four_taken desc)
+    ∙ ap (λ t. width * rows * (sum (element_counts desc) * t)) (sym slots.1.bytes)
 
 counts_few : (ns : List ℕ) → are_counts 4 ns ≡ true → sum ns ≤ 4
 counts_few ns good = leb-true (sum ns) 4 (and_parts (are_in_front ns && nat_le 1 (sum ns)) (nat_le (sum ns) 4) good).1

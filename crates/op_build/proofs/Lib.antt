@@ -12,10 +12,10 @@ pub mod Convert
 pub mod EncodeRuns
 pub mod SlotNumbers
 pub mod EncodeOrder
-pub mod EncodeBits
-pub mod EncodeElements
+pub mod SlotBits
+pub mod NumberBits
+pub mod EncodeSlots
 pub mod EncodePacked
-pub mod EncodeWord
 pub mod Encode
 pub mod DecodeTyped
 pub mod RecipeTyped

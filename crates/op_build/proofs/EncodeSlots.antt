@@ -1,0 +1,109 @@
+-- What encoding places in the slots of a pixel is what the numbers of its elements hold there, in the frame that is made of the values.
+use Rattle.std.proofs.Common.{◌≡◌, ℕ, ◌*◌, ◌/◌, ◌%◌, ◌^◌, ◌<◌, ◌≤◌, false, not, ◌&&◌, nat_eq, pos, List, length, get_or, Option}
+use Rattle.std.proofs.Common.{Some, None, mod-eq_of_lt, sym, refl, ap, ◌∙◌, arith}
+use Rattle.std.specs.Prelude.{sum}
+use Rattle.frac_math.specs.Fraction.{ℚ, floor}
+use Rattle.pix_desc.specs.declared.desc.Desc.{Desc}
+use Rattle.pix_desc.specs.Component.{component_of}
+use Rattle.pix_desc.specs.Frame.{frame_of, FitDepths, IsFrameOf}
+use Rattle.pix_desc.specs.Layouts.{IsValid}
+use Rattle.pix_desc.specs.Shape.{element_counts, slots, position_of}
+use Rattle.pix_desc.proofs.BitPositions.{byte_below}
+use Rattle.pix_desc.proofs.FrameExists.{frame_says}
+use Rattle.pix_desc.proofs.PixelSlots.{has_slots}
+use Rattle.pix_desc.proofs.Valid.{laid_out}
+use Rattle.pix_meaning.specs.Pairs.{channel_of}
+use Rattle.op_list.specs.declared.position.PixelPosition.{PixelPosition}
+use Rattle.op_list.specs.Pixel.{number_at, element_in, element_of, pixel_count, pixel_number}
+use Rattle.op_list.specs.Types.{bits, bytes}
+use Rattle.op_list.proofs.Stored.{element_of-is}
+use Rattle.op_build.specs.ElementType.{element_type, is_swapped}
+use Rattle.op_build.specs.Recipe.{slot_channels, spare_zeros}
+use Rattle.op_build.proofs.ByteNumbers.{in_order}
+use Rattle.op_build.proofs.ElementTypes.{has_type}
+use Rattle.op_build.proofs.EncodeOrder.{turned_back, ordered_below}
+use Rattle.op_build.proofs.EncodeRuns.{placed_code}
+use Rattle.op_build.proofs.NumberBits as Number
+use Rattle.op_build.proofs.NumberBits.{content, held_below, slot_number}
+use Rattle.op_build.proofs.SlotBits.{SlotBits, AreSlotBits}
+use Rattle.op_build.proofs.SlotNumbers.{fits_type, spare_slot, component_position}
+
+-- the values of a pixel, as channels and as components
+pub record GivesValues (desc : Desc) (position : PixelPosition) (value : ℕ → ℕ → ℕ → ℕ) (vs : ℕ → ℚ) : Type 0 where
+  pub valid : IsValid desc
+  pub plain : desc.palette ≡ false
+  pub fit : FitDepths desc position.width position.rows value
+  pub codes : (j : ℕ) → j < desc.count → floor (vs (channel_of desc j)) ≡ pos (value j position.x position.row)
+  pub column : position.x < position.width
+  pub row : position.row < position.rows
+
+module _ (desc : Desc) (position : PixelPosition) (value : ℕ → ℕ → ℕ → ℕ) (vs : ℕ → ℚ) (gives : GivesValues desc position value vs) where
+  abbrev pub made : List ℕ
+  made = frame_of desc position.width position.rows value
+
+  abbrev pub position_again : PixelPosition
+  position_again = record { width = position.width; rows = position.rows; x = position.x; row = position.row; y = position.row }
+
+  pub made_says : IsFrameOf desc position.width position.rows value made
+  made_says = frame_says desc position.width position.rows value (laid_out desc gives.valid) gives.fit gives.plain
+
+  small : (k : ℕ) → get_or made k 0 < 256
+  small k = byte_below made k made_says.bytes
+
+  -- what is placed in a slot
+  abbrev pub placed : ℕ → ℕ
+  placed p = placed_code (element_type desc) (slot_channels desc) (spare_zeros desc) vs p
+
+  module _ (s : SlotBits) (is : AreSlotBits desc s) where
+    -- the number of an element of the frame that is made
+    abbrev pub number_of : ℕ → ℕ
+    number_of e = Number.number_of desc gives.valid s is made position_again made_says.bytes e
+
+    pub number_below : (e : ℕ) → number_of e < 2 ^ (8 * s.size)
+    number_below e =
+        ordered_below made small desc.be s.size
+        (element_in (pixel_count position) (pixel_number position) 0 (element_counts desc) e * s.size) is.size
+
+    pub type_bits : bits (element_type desc) ≡ 8 * s.size
+    type_bits = (has_type desc gives.valid).bits ∙ ap (λ t. 8 * t) is.bytes
+
+    placed_is : (p : ℕ) (slot : Option ℕ) → p < 4 → p < length (slots desc) → get_or (slots desc) p None ≡ slot
+        → placed p ≡ content (λ j. value j position.x position.row) slot
+    placed_is p None below within spare = spare_slot desc (element_type desc) vs p below within spare
+    placed_is p (Some j) below within holds =
+        let positions = has_slots desc gives.valid in
+        let at = positions.only p j within holds in
+        let deep : (component_of desc j).depth ≤ bits (element_type desc) = omega
+        (arith, type_bits, is.inside j at.0, is.room (position_of desc j) (positions.within j at.0)) in
+        component_position desc (element_type desc) vs p j (value j position.x position.row) below
+        (omega (arith, at.0, (laid_out desc gives.valid).most)) holds (gives.codes j at.0)
+        (fits_type (value j position.x position.row) (component_of desc j).depth (bits (element_type desc)) deep
+        (gives.fit j position.x position.row at.0 gives.column gives.row))
+
+    pub slot_written : (p : ℕ) → p < 4 → p < length (slots desc)
+        → number_of (s.element p) / 2 ^ s.low p % 2 ^ s.width p ≡ placed p * 2 ^ s.up % 2 ^ s.width p
+    slot_written p below within =
+        let slot = get_or (slots desc) p None in
+        let here = placed_is p slot below within refl in
+        let small_here = held_below desc gives.valid s is made position_again made_says.bytes value made_says gives.fit gives.column gives.row
+        p slot within refl in
+        slot_number desc gives.valid s is made position_again made_says.bytes value made_says gives.fit gives.column gives.row p within
+        ∙ sym (mod-eq_of_lt small_here)
+        ∙ ap (λ v. v * 2 ^ s.up % 2 ^ s.width p) (sym here)
+
+    -- an element whose number in the format's byte order is known
+    pub element_written : (e number : ℕ) → e < sum (element_counts desc) → number_of e ≡ number
+        → in_order (is_swapped desc) (bytes (element_type desc)) number
+        ≡ element_of (element_type desc) (element_counts desc) made position_again e
+    element_written e number within is_number =
+        let elem = element_type desc in
+        let typed = has_type desc gives.valid in
+        let size = s.size in
+        let at = element_in (pixel_count position) (pixel_number position) 0 (element_counts desc) e in
+        let bytes_are : bytes elem ≡ size = typed.bytes ∙ is.bytes in
+        ap (in_order (is_swapped desc) (bytes elem)) (sym is_number)
+        ∙ ap (λ b. in_order b (bytes elem) (number_of e)) (typed.swapped ∙ ap (λ t. desc.be && not (nat_eq t 1)) is.bytes)
+        ∙ ap (λ t. in_order (desc.be && not (nat_eq size 1)) t (number_of e)) bytes_are
+        ∙ turned_back made small desc.be size (at * size) is.size
+        ∙ ap (λ t. number_at t made (at * t)) (sym bytes_are)
+        ∙ sym (element_of-is elem (element_counts desc) made position_again e within)
