@@ -26,13 +26,12 @@ use Rattle.op_list.specs.Apply.{apply, at_most, at_least}
 use Rattle.op_list.specs.Run.{run_from}
 use Rattle.op_list.specs.Typing.{stage_after, stage_from}
 use Rattle.op_list.proofs.Runs.{run_from-append}
-use Rattle.op_list.proofs.Typed.{stage_from-append}
 use Rattle.pix_meaning.specs.Channels.{channel_depth, channel_levels}
 use Rattle.op_build.specs.Recipe.{only_if, over_three, from_codes, to_codes, limits, convert}
 use Rattle.pix_meaning.specs.Channels.{code_of}
 use Rattle.pix_meaning.proofs.ChannelLevels.{levels_there, code_means}
-use Rattle.op_build.proofs.ConvertSteps.{same_fractions, from_codes-applied, to_codes-applied, from_codes-stage, to_codes-stage, to_rgb-run}
-use Rattle.op_build.proofs.ConvertSteps.{from_rgb-run, only_if-stage}
+use Rattle.op_build.proofs.ConvertSteps.{same_fractions, from_codes-applied, to_codes-applied, to_rgb-run}
+use Rattle.op_build.proofs.ConvertSteps.{from_rgb-run}
 use Rattle.op_build.proofs.ConvertClamp.{floor_limited}
 
 -- ---- the values at the end
@@ -158,36 +157,6 @@ convert_run pair frame position stage valid =
     (from_codes-applied frame position (Typed Rat) pair.from (λ c. nat (code c)) ∙ source_read pair.from frame position valid.from)
     ∙ middle_run frame position after pair (source_values pair.from position.width position.rows frame position.x position.row) valid
 
-first_stage : (pair : Pair) (stage : Stage) (rest : List Op)
-    → stage_from stage (Convert Rat Bool.false ∷ from_codes pair.from ∷ rest)
-    ≡ stage_from (stage_after (Typed Rat) (from_codes pair.from)) rest
-unfolding stage_from stage_after
-first_stage pair stage rest = refl
-
-ended : (pair : Pair) (stage : Stage) → stage_from stage
-    (Dither pair.dither ∷ Max (limits pair.to.desc (λ c. nat 0)) ∷ Min
-    (limits pair.to.desc (λ c. nat (2 ^ channel_depth pair.to.desc c - 1))) ∷ []) ≡ stage
-unfolding stage_from stage_after
-ended pair stage = refl
-
-last_stage : (pair : Pair) → stage_from (Typed Rat) (last_steps pair) ≡ Typed Rat
-unfolding stage_from
-last_stage pair = ended pair (stage_after (Typed Rat) (to_codes pair.to)) ∙ to_codes-stage (Typed Rat) pair.to
-
--- and leaves fractions
-pub convert_stage : (pair : Pair) (stage : Stage) → stage_from stage (convert pair) ≡ Typed Rat
-unfolding convert
-convert_stage pair stage =
-    first_stage pair stage (to_rgb_step pair ++ from_rgb_step pair ++ last_steps pair)
-    ∙ ap (λ s. stage_from s (to_rgb_step pair ++ from_rgb_step pair ++ last_steps pair)) (from_codes-stage (Typed Rat) pair.from)
-    ∙ stage_from-append (Typed Rat) (to_rgb_step pair ++ from_rgb_step pair) (last_steps pair)
-    ∙ ap (λ s. stage_from s (last_steps pair))
-    (stage_from-append (Typed Rat) (to_rgb_step pair) (from_rgb_step pair)
-    ∙ ap (λ s. stage_from s (from_rgb_step pair))
-    (only_if-stage (Typed Rat) (not (is_rgb pair.from.desc)) (over_three (to_rgb_rows pair.from.matrix)))
-    ∙ only_if-stage (Typed Rat) (not (is_rgb pair.to.desc)) (over_three (from_rgb_rows pair.to.matrix)))
-    ∙ last_stage pair
-
 -- what converting gives at a pixel: values for the encoding, and their floors
 pub record ConvertGives (pair : Pair) (frame : List ℕ) (position : PixelPosition) (stage : Stage) (first : ℕ) : Type 0 where
   pub values : run_from frame position stage (convert pair)
@@ -196,7 +165,6 @@ pub record ConvertGives (pair : Pair) (frame : List ℕ) (position : PixelPositi
   pub floors : (j : ℕ) → j < pair.to.desc.count
       → floor (coded pair position.width position.rows frame position.x position.row position.y (channel_of pair.to.desc j))
       ≡ pos (result_of pair position.width position.rows first frame j position.x position.row)
-  pub rational : stage_from stage (convert pair) ≡ Typed Rat
 
 pub convert_gives : (pair : Pair) (frame : List ℕ) (position : PixelPosition) (stage : Stage) (first : ℕ) → IsValidPair pair
     → pair.to.desc.palette ≡ false → position.y ≡ first + position.row
@@ -208,5 +176,4 @@ convert_gives pair frame position stage first valid none here =
       floors = λ j listed.
           ap (λ y. floor (coded pair position.width position.rows frame position.x position.row y (channel_of pair.to.desc j))) here
           ∙ coded_floor pair position.width position.rows first frame j position.x position.row valid (omega (arith, counted));
-      rational = convert_stage pair stage;
     }

@@ -107,11 +107,6 @@ affine_applied frame position stage true scale constant f is =
     ap Fractions (same_four (λ c. f c *ℚ scale 0) (λ c. scale c *ℚ f c +ℚ constant c) (λ c below. scaled scale constant f c (is refl) below))
 affine_applied frame position stage false scale constant f is = diagonal_applied frame position stage scale constant f
 
-affine-stage : (stage : Stage) (plain : Bool) (scale constant : ℕ → ℚ) → stage_after stage (affine plain scale constant) ≡ stage
-unfolding stage_after
-affine-stage stage true scale constant = refl
-affine-stage stage false scale constant = refl
-
 -- ---- from codes to values, and back
 
 from_scale : (l : ℕ → Levels) → IsPlain l → IsScale (λ c. nat 1 /ℚ (l c).scale) (λ c. neg_ℚ (l c).base /ℚ (l c).scale)
@@ -144,18 +139,6 @@ to_codes-applied frame position stage side f =
     let l = channel_levels side in
     affine_applied frame position stage (are_plain l) (λ c. (l c).scale) (λ c. (l c).base) f
     (λ plain. let is = plain_is l plain in record { multiple = is.scale; none = is.base })
-
--- neither changes the type
-pub from_codes-stage : (stage : Stage) (side : Side) → stage_after stage (from_codes side) ≡ stage
-unfolding from_codes
-from_codes-stage stage side =
-    let l = channel_levels side in
-    affine-stage stage (are_plain l) (λ c. nat 1 /ℚ (l c).scale) (λ c. neg_ℚ (l c).base /ℚ (l c).scale)
-
-pub to_codes-stage : (stage : Stage) (side : Side) → stage_after stage (to_codes side) ≡ stage
-unfolding to_codes
-to_codes-stage stage side =
-    let l = channel_levels side in affine-stage stage (are_plain l) (λ c. (l c).scale) (λ c. (l c).base)
 
 -- ---- rows over the first three values
 
@@ -206,8 +189,3 @@ from_rgb-run frame position stage side e matrix =
       | false ↦ over_three-applied frame position stage (from_rgb_rows side.matrix) e
           ∙ ap (λ v. Fractions (four (value_at v))) (by_rows-from_rgb_rows side.matrix e matrix)
     ]
-
-pub only_if-stage : (stage : Stage) (needed : Bool) (rows : List (List ℚ)) → stage_from stage (only_if needed (Linear rows)) ≡ stage
-unfolding stage_from stage_after
-only_if-stage stage true rows = refl
-only_if-stage stage false rows = refl

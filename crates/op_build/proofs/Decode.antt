@@ -1,4 +1,4 @@
--- Decoding gives the codes of the channels, and leaves whole numbers.
+-- Decoding gives the codes of the channels.
 use Rattle.std.proofs.Common.{◌≡◌, ◌<◌, ℕ, ⊎_elim, true, List, All, ap, sym, ◌∙◌}
 use Rattle.std.proofs.lemmas.Bool.{cases_Bool, cond-true, cond-false}
 use Rattle.pix_desc.specs.declared.desc.Desc.{Desc}
@@ -15,8 +15,8 @@ use Rattle.op_build.specs.Recipe.{decode}
 use Rattle.op_build.specs.ElementType.{element_type}
 use Rattle.pix_meaning.specs.Channels.{code_of}
 use Rattle.op_build.specs.Codes.{decoded_type, GivesCodes, IsWholeTyped}
-use Rattle.op_build.proofs.DecodePlain.{decode_plain, stage_plain}
-use Rattle.op_build.proofs.DecodePalette.{decode_palette, stage_palette}
+use Rattle.op_build.proofs.DecodePlain.{decode_plain}
+use Rattle.op_build.proofs.DecodePalette.{decode_palette}
 use Rattle.op_build.proofs.ElementTypes.{has_type}
 
 pub decode_gives : (desc : Desc) (frame : List ℕ) (position : PixelPosition) → IsValid desc → All (λ byte. byte < 256) frame
@@ -28,22 +28,5 @@ decode_gives desc frame position valid bytes =
     (λ none. decode_plain desc frame position valid none bytes)
     (cases_Bool desc.palette)
 
-pub decode_stage : (desc : Desc) → IsValid desc → stage_from Start (decode desc) ≡ Typed (decoded_type desc)
-decode_stage desc valid =
-    ⊎_elim
-    (λ palette. stage_palette desc palette ∙ ap Typed (sym (cond-true desc.palette U8 (element_type desc) palette)))
-    (λ none. stage_plain desc valid none ∙ ap Typed (sym (cond-false desc.palette U8 (element_type desc) none)))
-    (cases_Bool desc.palette)
-
-pub decoded_type-whole : (desc : Desc) → IsValid desc → is_whole_type (decoded_type desc) ≡ true
-decoded_type-whole desc valid =
-    ⊎_elim
-    (λ palette. ap is_whole_type (cond-true desc.palette U8 (element_type desc) palette))
-    (λ none. ap is_whole_type (cond-false desc.palette U8 (element_type desc) none) ∙ (has_type desc valid).whole)
-    (cases_Bool desc.palette)
-
 pub gives_codes : (desc : Desc) (frame : List ℕ) (position : PixelPosition) → GivesCodes desc frame position
 gives_codes desc frame position = λ valid bytes. decode_gives desc frame position valid bytes
-
-pub whole_typed : (desc : Desc) → IsWholeTyped desc
-whole_typed desc = λ valid. record { stage = decode_stage desc valid; whole = decoded_type-whole desc valid }

@@ -187,7 +187,3 @@ decode_palette desc frame position valid palette all_bytes =
     ap (λ b. cleared_number (if b then None else Some (nat (missing_code desc c))) (get_or colours c 0)) there
     ∙ entry_is desc frame position valid palette all_bytes c below
     ∙ sym (code_of-there desc position.width position.rows frame position.x position.row c there)))
-
-pub stage_palette : (desc : Desc) → desc.palette ≡ true → stage_from Start (decode desc) ≡ Typed U8
-unfolding stage_from stage_after
-stage_palette desc palette = ap (stage_from Start) (decode_is desc palette)

@@ -31,7 +31,7 @@ use Rattle.op_build.proofs.ByteNumbers.{in_order, one_byte_in_order}
 use Rattle.pix_meaning.proofs.ChannelCodes.{code_of-there, code_of-missing, plain_component, channel_listed}
 use Rattle.op_build.proofs.Codes.{in_channels}
 use Rattle.pix_meaning.specs.Channels.{code_of}
-use Rattle.op_build.proofs.DecodeRuns.{decode_by, ordered_element, run_shifts, run_fields, stage_shifts, stage_fields}
+use Rattle.op_build.proofs.DecodeRuns.{decode_by, ordered_element, run_shifts, run_fields}
 use Rattle.pix_desc.proofs.ElementSlots.{HasElements}
 use Rattle.op_build.proofs.FieldValues.{shifted_field}
 use Rattle.op_build.proofs.NumberBits.{number_of, component_number}
@@ -183,18 +183,4 @@ decode_plain desc frame position valid none all_bytes =
     ∙ run_fields frame position elem (element_counts desc) (is_swapped desc) (field_widths desc) (channel_slots desc) (missing_codes desc)
     ∙ decoded desc frame position valid all_bytes none (fielded desc frame position valid all_bytes is)
     (fielded_is desc frame position valid all_bytes is))
-    (has_layout desc valid)
-
-pub stage_plain : (desc : Desc) → IsValid desc → desc.palette ≡ false → stage_from Start (decode desc) ≡ Typed (element_type desc)
-stage_plain desc valid none =
-    let elem = element_type desc in
-    let first = component_of desc 0 in
-    ⊎_elim
-    (λ (is : HasElements desc (first_size desc)).
-    ap (stage_from Start) (decode_is desc (shifts desc) none (split_elements desc is.elements))
-    ∙ stage_shifts elem (element_counts desc) (is_swapped desc) (bits elem - first.shift - first.depth) (bits elem - first.depth)
-    (channel_slots desc) (missing_codes desc))
-    (λ (is : HasWord desc).
-    ap (stage_from Start) (decode_is desc (Unpack (field_widths desc) ∷ []) none (split_word desc is.word))
-    ∙ stage_fields elem (element_counts desc) (is_swapped desc) (field_widths desc) (channel_slots desc) (missing_codes desc))
     (has_layout desc valid)

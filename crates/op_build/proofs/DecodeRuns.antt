@@ -49,16 +49,3 @@ pub run_palette : (frame : List ℕ) (position : PixelPosition) (entries : List 
     ≡ cleared entries (Numbers (palette_colours frame position))
 unfolding run_from apply stage_after
 run_palette frame position entries = refl
-
--- the values have the type of the elements
-pub stage_shifts : (elem : PixType) (counts : List ℕ) (swapped : Bool) (up down : ℕ) (positions : List ℕ) (entries : List (Option ℚ))
-    → stage_from Start (decode_by elem counts swapped (LeftShift up ∷ RightShift down ∷ []) positions entries) ≡ Typed elem
-unfolding stage_from stage_after
-stage_shifts elem counts true up down positions entries = refl
-stage_shifts elem counts false up down positions entries = refl
-
-pub stage_fields : (elem : PixType) (counts : List ℕ) (swapped : Bool) (widths : List ℕ) (positions : List ℕ) (entries : List (Option ℚ))
-    → stage_from Start (decode_by elem counts swapped (Unpack widths ∷ []) positions entries) ≡ Typed elem
-unfolding stage_from stage_after
-stage_fields elem counts true widths positions entries = refl
-stage_fields elem counts false widths positions entries = refl

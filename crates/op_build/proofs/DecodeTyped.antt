@@ -1,6 +1,6 @@
--- Decoding is well typed.
+-- Decoding is well typed, has at most six operations and leaves whole numbers.
 use Rattle.std.proofs.Common.{◌≡◌, ℕ, ◌+◌, ◌-◌, ◌^◌, ◌<◌, ◌≤◌, ⊎_elim, Bool, true, false, ◌&&◌, if◌then◌else◌, List, [], ◌∷◌, ◌++◌, Option}
-use Rattle.std.proofs.Common.{Some, None, append_assoc, pow_mono, refl, ap, ◌∙◌, arith}
+use Rattle.std.proofs.Common.{Some, None, pow_mono, sym, refl, subst, arith}
 use Rattle.std.specs.Prelude.{nat_lt}
 use Rattle.std.specs.List.{list_all}
 use Rattle.std.proofs.lemmas.Bool.{and_from, or_right, cases_Bool, cond_both, cond-true, cond-false, lt-ltb}
@@ -14,23 +14,26 @@ use Rattle.op_list.specs.declared.op.Op.{Op}
 use Rattle.op_list.specs.declared.op.Op.TheVariants.{Read, SwapBytes, Unpack, Clear, LeftShift, RightShift, Swizzle}
 use Rattle.op_list.specs.declared.types.PixType.{PixType}
 use Rattle.op_list.specs.declared.types.PixType.TheVariants.{U8}
+use Rattle.op_list.specs.declared.types.Stage.{Stage}
 use Rattle.op_list.specs.declared.types.Stage.TheVariants.{Start, Typed}
 use Rattle.op_list.specs.Types.{bits, is_whole_type, is_wide, is_rational}
-use Rattle.op_list.specs.Typing.{may_follow, are_good, are_counts, are_typed, all_fit, entry_fits, stage_after}
-use Rattle.op_list.proofs.Typed.{typed_from, typed_none}
+use Rattle.op_list.specs.Typing.{may_follow, are_good, are_counts, all_fit, entry_fits, stage_after}
+use Rattle.op_list.proofs.Typed.{IsTyped, no_operations, one_more, both_parts}
 use Rattle.pix_desc.specs.Shape.{element_counts, field_widths, position_of}
 use Rattle.op_build.specs.ElementType.{element_type, is_swapped}
 use Rattle.pix_meaning.specs.Channels.{missing_code}
-use Rattle.op_build.specs.Recipe.{decode, only_if, channel_slots, missing_codes}
+use Rattle.op_build.specs.Codes.{decoded_type, IsWholeTyped}
+use Rattle.op_build.specs.Recipe.{decode, only_if, split, channel_slots, missing_codes}
 use Rattle.pix_meaning.proofs.ChannelCodes.{missing_code-below, channel_listed}
-use Rattle.op_build.proofs.DecodeRuns.{decode_by}
-use Rattle.op_build.proofs.DecodePlain.{decode_is, shifts, split_elements, split_word}
+use Rattle.op_build.proofs.DecodePlain as Plain
+use Rattle.op_build.proofs.DecodePlain.{split_elements, split_word}
 use Rattle.op_build.proofs.DecodePalette as Palette
 use Rattle.pix_desc.proofs.ElementSlots.{HasElements}
 use Rattle.op_list.proofs.Four.{four_hold}
 use Rattle.pix_desc.proofs.PixelSlots.{first_size, has_layout, has_slots}
 use Rattle.op_build.proofs.ElementTypes.{has_type, element_counts_are_good, field_widths_are_good}
-use Rattle.pix_desc.proofs.WordBits.{number_end, word_end}
+use Rattle.op_build.proofs.SlotBits.{has_slot_bits}
+use Rattle.pix_desc.proofs.WordBits.{number_end}
 use Rattle.pix_desc.proofs.WordShape.{HasWord}
 
 -- ---- the arguments of each operation
@@ -62,108 +65,112 @@ channel_slots_fit desc valid none =
     (arith, cond-false (has_channel desc c) (position_of desc (component_at desc c)) c missing))
     (cases_Bool (has_channel desc c))))
 
+-- the first component fits the elements
+first_deep : (desc : Desc) → IsValid desc → (component_of desc 0).depth ≤ bits (element_type desc)
+first_deep desc valid =
+    let laid = laid_out desc valid in
+    let slots = (has_slot_bits desc valid).1 in
+    let position = position_of desc 0 in
+    omega (
+      arith,
+      (has_type desc valid).bits,
+      slots.bytes,
+      slots.inside 0 laid.some,
+      slots.room position ((has_slots desc valid).within 0 laid.some),
+    )
+
 -- ---- the operations behind one another
 
--- What is wanted of the arguments of a decoding.
-record AreArguments (elem : PixType) (counts : List ℕ) (swapped : Bool) (positions : List ℕ) (entries : List (Option ℚ)) : Type 0 where
-  whole : is_whole_type elem ≡ true
-  good : are_counts 4 counts ≡ true
-  wide : swapped ≡ true → is_wide (Typed elem) ≡ true
-  within : list_all (λ i. nat_lt i 4) positions ≡ true
-  fit : all_fit (bits elem) entries ≡ true
+two_at_most : (stage last : Stage) (ops : List Op) (few most : ℕ) → few ≤ most → IsTyped stage ops last few → IsTyped stage ops last most
+two_at_most stage last ops few most fewer is = record { typed = is.typed; leaves = is.leaves; size = omega (arith, is.size) }
 
-module _ (elem : PixType) (counts : List ℕ) (swapped : Bool) (positions : List ℕ) (entries : List (Option ℚ))
-    (are : AreArguments elem counts swapped positions entries) where
-  clear_typed : are_typed (Typed elem) (Clear entries ∷ []) ≡ true
-  unfolding may_follow are_good stage_after
-  clear_typed =
-      typed_from (Typed elem) (Clear entries) [] refl (or_right (is_rational (Typed elem)) (all_fit (bits elem) entries) are.fit)
-      (typed_none (Typed elem))
+swap_part : (elem : PixType) (swapped : Bool) → (swapped ≡ true → is_wide (Typed elem) ≡ true)
+    → IsTyped (Typed elem) (only_if swapped SwapBytes) (Typed elem) 1
+unfolding may_follow are_good stage_after
+swap_part elem true wide = one_more (Typed elem) (Typed elem) (Typed elem) SwapBytes [] 0 (wide refl) refl refl (no_operations (Typed elem))
+swap_part elem false wide = two_at_most (Typed elem) (Typed elem) [] 0 1 (omega arith) (no_operations (Typed elem))
 
-  slots_typed : are_typed (Typed elem) (Swizzle positions ∷ Clear entries ∷ []) ≡ true
-  unfolding may_follow are_good stage_after
-  slots_typed = typed_from (Typed elem) (Swizzle positions) (Clear entries ∷ []) refl are.within clear_typed
+clear_part : (elem : PixType) (entries : List (Option ℚ)) → all_fit (bits elem) entries ≡ true
+    → IsTyped (Typed elem) (Clear entries ∷ []) (Typed elem) 1
+unfolding may_follow are_good stage_after
+clear_part elem entries fit =
+    one_more (Typed elem) (Typed elem) (Typed elem) (Clear entries) [] 0 refl
+    (or_right (is_rational (Typed elem)) (all_fit (bits elem) entries) fit) refl (no_operations (Typed elem))
 
-  read_typed : (ops : List Op) → are_typed (Typed elem) ops ≡ true
-      → are_typed Start (Read elem counts false ∷ only_if swapped SwapBytes ++ ops) ≡ true
-  unfolding may_follow are_good stage_after
-  read_typed ops rest =
-      typed_from Start (Read elem counts false) (only_if swapped SwapBytes ++ ops) refl
-      (and_from (is_whole_type elem && are_counts 4 counts) true
-      (and_from (is_whole_type elem) (are_counts 4 counts) are.whole are.good) refl)
-      (elim swapped as (λ s. (s ≡ true → is_wide (Typed elem) ≡ true) → are_typed (Typed elem) (only_if s SwapBytes ++ ops) ≡ true) [
-        | true ↦ λ wide. typed_from (Typed elem) SwapBytes ops (wide refl) refl rest
-        | false ↦ λ wide. rest
-      ] are.wide)
+module _ (desc : Desc) (valid : IsValid desc) (none : desc.palette ≡ false) where
+  abbrev elem : PixType
+  elem = element_type desc
 
-  typed_shifts : (up down : ℕ) → up < bits elem → down < bits elem
-      → are_typed Start (decode_by elem counts swapped (LeftShift up ∷ RightShift down ∷ []) positions entries) ≡ true
+  read_part : IsTyped Start (Read elem (element_counts desc) false ∷ only_if (is_swapped desc) SwapBytes) (Typed elem) 2
   unfolding may_follow are_good stage_after
-  typed_shifts up down first second =
-      ap (are_typed Start)
-      (append_assoc (Read elem counts false ∷ only_if swapped SwapBytes) (LeftShift up ∷ RightShift down ∷ [])
-      (Swizzle positions ∷ Clear entries ∷ []))
-      ∙ read_typed (LeftShift up ∷ RightShift down ∷ Swizzle positions ∷ Clear entries ∷ [])
-      (typed_from (Typed elem) (LeftShift up) (RightShift down ∷ Swizzle positions ∷ Clear entries ∷ []) are.whole
-      (lt-ltb up (bits elem) first)
-      (typed_from (Typed elem) (RightShift down) (Swizzle positions ∷ Clear entries ∷ []) are.whole
-      (lt-ltb down (bits elem) second) slots_typed))
+  read_part =
+      let typed = has_type desc valid in
+      one_more Start (Typed elem) (Typed elem) (Read elem (element_counts desc) false) (only_if (is_swapped desc) SwapBytes) 1 refl
+      (and_from (is_whole_type elem && are_counts 4 (element_counts desc)) true
+      (and_from (is_whole_type elem) (are_counts 4 (element_counts desc)) typed.whole (element_counts_are_good desc valid)) refl)
+      refl (swap_part elem (is_swapped desc) typed.wide)
 
-  typed_fields : (widths : List ℕ) → are_counts (bits elem) widths ≡ true
-      → are_typed Start (decode_by elem counts swapped (Unpack widths ∷ []) positions entries) ≡ true
+  shift_part : HasElements desc (first_size desc) → IsTyped (Typed elem) (split desc) (Typed elem) 2
   unfolding may_follow are_good stage_after
-  typed_fields widths good =
-      ap (are_typed Start)
-      (append_assoc (Read elem counts false ∷ only_if swapped SwapBytes) (Unpack widths ∷ []) (Swizzle positions ∷ Clear entries ∷ []))
-      ∙ read_typed (Unpack widths ∷ Swizzle positions ∷ Clear entries ∷ [])
-      (typed_from (Typed elem) (Unpack widths) (Swizzle positions ∷ Clear entries ∷ []) are.whole good slots_typed)
+  shift_part is =
+      let laid = laid_out desc valid in
+      let typed = has_type desc valid in
+      let first = component_of desc 0 in
+      let up = bits elem - first.shift - first.depth in
+      let down = bits elem - first.depth in
+      let deep = laid.deep 0 laid.some in
+      let room : first.shift + first.depth ≤ bits elem = omega (arith, number_end desc laid 0 laid.some, typed.bits, is.bytes) in
+      subst (λ ops. IsTyped (Typed elem) ops (Typed elem) 2) (sym (split_elements desc is.elements))
+      (one_more (Typed elem) (Typed elem) (Typed elem) (LeftShift up) (RightShift down ∷ []) 1 typed.whole
+      (lt-ltb up (bits elem) (omega arith)) refl
+      (one_more (Typed elem) (Typed elem) (Typed elem) (RightShift down) [] 0 typed.whole
+      (lt-ltb down (bits elem) (omega arith)) refl (no_operations (Typed elem))))
+
+  field_part : HasWord desc → IsTyped (Typed elem) (split desc) (Typed elem) 2
+  unfolding may_follow are_good stage_after
+  field_part is =
+      subst (λ ops. IsTyped (Typed elem) ops (Typed elem) 2) (sym (split_word desc is.word))
+      (two_at_most (Typed elem) (Typed elem) (Unpack (field_widths desc) ∷ []) 1 2 (omega arith)
+      (one_more (Typed elem) (Typed elem) (Typed elem) (Unpack (field_widths desc)) [] 0 (has_type desc valid).whole
+      (field_widths_are_good desc is) refl (no_operations (Typed elem))))
+
+  slots_part : IsTyped (Typed elem) (Swizzle (channel_slots desc) ∷ Clear (missing_codes desc) ∷ []) (Typed elem) 2
+  unfolding may_follow are_good stage_after
+  slots_part =
+      let depth : depth_of desc 0 ≡ (component_of desc 0).depth = cond-false {A = ℕ} desc.palette 8 (component_of desc 0).depth none in
+      one_more (Typed elem) (Typed elem) (Typed elem) (Swizzle (channel_slots desc)) (Clear (missing_codes desc) ∷ []) 1 refl
+      (channel_slots_fit desc valid none) refl
+      (clear_part elem (missing_codes desc) (missing_codes_fit desc (bits elem) valid (omega (arith, depth, first_deep desc valid))))
+
+  plain_part : IsTyped Start (decode desc) (Typed elem) 6
+  plain_part =
+      let front = Read elem (element_counts desc) false ∷ only_if (is_swapped desc) SwapBytes in
+      let rest = Swizzle (channel_slots desc) ∷ Clear (missing_codes desc) ∷ [] in
+      subst (λ ops. IsTyped Start ops (Typed elem) 6) (sym (Plain.decode_is desc (split desc) none refl))
+      (both_parts Start (Typed elem) (Typed elem) (front ++ split desc) rest 4 2
+      (both_parts Start (Typed elem) (Typed elem) front (split desc) 2 2 read_part (⊎_elim shift_part field_part (has_layout desc valid)))
+      slots_part)
+
+palette_part : (desc : Desc) → IsValid desc → desc.palette ≡ true → IsTyped Start (decode desc) (Typed U8) 6
+unfolding may_follow are_good stage_after
+palette_part desc valid palette =
+    let deep : depth_of desc 0 ≤ 8 = omega (arith, cond-true {A = ℕ} desc.palette 8 (component_of desc 0).depth palette) in
+    subst (λ ops. IsTyped Start ops (Typed U8) 6) (sym (Palette.decode_is desc palette))
+    (two_at_most Start (Typed U8) (Read U8 (1 ∷ 0 ∷ 0 ∷ 0 ∷ []) true ∷ Clear (missing_codes desc) ∷ []) 2 6 (omega arith)
+    (one_more Start (Typed U8) (Typed U8) (Read U8 (1 ∷ 0 ∷ 0 ∷ 0 ∷ []) true) (Clear (missing_codes desc) ∷ []) 1 refl refl refl
+    (clear_part U8 (missing_codes desc) (missing_codes_fit desc 8 valid deep))))
 
 -- ---- the whole
 
-depth_is : (desc : Desc) → desc.palette ≡ false → depth_of desc 0 ≡ (component_of desc 0).depth
-depth_is desc none = cond-false {A = ℕ} desc.palette 8 (component_of desc 0).depth none
+pub decode_part : (desc : Desc) → IsValid desc → IsTyped Start (decode desc) (Typed (decoded_type desc)) 6
+decode_part desc valid =
+    cond_both desc.palette U8 (element_type desc) (λ elem. IsTyped Start (decode desc) (Typed elem) 6)
+    (λ palette. palette_part desc valid palette) (λ none. plain_part desc valid none)
 
-arguments : (desc : Desc) → IsValid desc → desc.palette ≡ false → (component_of desc 0).depth ≤ bits (element_type desc)
-    → AreArguments (element_type desc) (element_counts desc) (is_swapped desc) (channel_slots desc) (missing_codes desc)
-arguments desc valid none deep =
-    let typed = has_type desc valid in
+pub whole_typed : (desc : Desc) → IsWholeTyped desc
+whole_typed desc = λ valid.
     record {
-      whole = typed.whole;
-      good = element_counts_are_good desc valid;
-      wide = typed.wide;
-      within = channel_slots_fit desc valid none;
-      fit = missing_codes_fit desc (bits (element_type desc)) valid (omega (arith, depth_is desc none));
+      stage = (decode_part desc valid).leaves;
+      whole = cond_both desc.palette U8 (element_type desc) (λ elem. is_whole_type elem ≡ true) (λ _. refl)
+          (λ _. (has_type desc valid).whole);
     }
-
-plain_typed : (desc : Desc) → IsValid desc → desc.palette ≡ false → are_typed Start (decode desc) ≡ true
-plain_typed desc valid none =
-    let laid = laid_out desc valid in
-    let elem = element_type desc in
-    let first = component_of desc 0 in
-    let typed = has_type desc valid in
-    let deep = laid.deep 0 laid.some in
-    ⊎_elim
-    (λ (is : HasElements desc (first_size desc)).
-    let room : first.shift + first.depth ≤ bits elem = omega (arith, number_end desc laid 0 laid.some, typed.bits, is.bytes) in
-    ap (are_typed Start) (decode_is desc (shifts desc) none (split_elements desc is.elements))
-    ∙ typed_shifts elem (element_counts desc) (is_swapped desc) (channel_slots desc) (missing_codes desc)
-    (arguments desc valid none (omega arith))
-    (bits elem - first.shift - first.depth) (bits elem - first.depth) (omega arith) (omega arith))
-    (λ (is : HasWord desc).
-    let room : first.depth ≤ bits elem = omega (arith, word_end desc laid 0 laid.some, typed.bits, is.bytes) in
-    ap (are_typed Start) (decode_is desc (Unpack (field_widths desc) ∷ []) none (split_word desc is.word))
-    ∙ typed_fields elem (element_counts desc) (is_swapped desc) (channel_slots desc) (missing_codes desc) (arguments desc valid none room)
-    (field_widths desc) (field_widths_are_good desc is))
-    (has_layout desc valid)
-
-palette_typed : (desc : Desc) → IsValid desc → desc.palette ≡ true → are_typed Start (decode desc) ≡ true
-unfolding may_follow are_good stage_after
-palette_typed desc valid palette =
-    let deep : depth_of desc 0 ≤ 8 = omega (arith, cond-true {A = ℕ} desc.palette 8 (component_of desc 0).depth palette) in
-    ap (are_typed Start) (Palette.decode_is desc palette)
-    ∙ typed_from Start (Read U8 (1 ∷ 0 ∷ 0 ∷ 0 ∷ []) true) (Clear (missing_codes desc) ∷ []) refl refl
-    (typed_from (Typed U8) (Clear (missing_codes desc)) [] refl (missing_codes_fit desc 8 valid deep) (typed_none (Typed U8)))
-
-pub decode_typed : (desc : Desc) → IsValid desc → are_typed Start (decode desc) ≡ true
-decode_typed desc valid =
-    ⊎_elim (λ palette. palette_typed desc valid palette) (λ none. plain_typed desc valid none) (cases_Bool desc.palette)

@@ -1,5 +1,5 @@
 -- The list of a valid pair means the target rows: decoding, conversion and encoding, one behind the other.
-use Rattle.std.proofs.Common.{◌≡◌, ◌<◌, ℕ, ◌+◌, false, List, All, refl, ◌∙◌, ap}
+use Rattle.std.proofs.Common.{◌≡◌, ◌<◌, ℕ, ◌+◌, false, List, All, sym, refl, ap, ◌∙◌}
 use Rattle.pix_desc.specs.Frame.{frame_of}
 use Rattle.pix_meaning.specs.declared.pair.Pair.{Pair}
 use Rattle.pix_meaning.specs.Pairs.{IsValidPair}
@@ -12,11 +12,13 @@ use Rattle.op_list.specs.Values.{four, number, no_values}
 use Rattle.op_list.specs.Typing.{stage_from}
 use Rattle.op_list.specs.Run.{run, run_from}
 use Rattle.op_list.proofs.Runs.{run_from-three}
+use Rattle.op_list.proofs.Typed.{stage_from-append}
 use Rattle.op_build.specs.Recipe.{decode, convert, encode, recipe}
 use Rattle.op_build.specs.Meaning.{elements_at, MeansItsTarget}
 use Rattle.op_build.proofs.Decode.{decode_gives}
 use Rattle.op_build.proofs.Convert.{convert_gives, coded}
 use Rattle.op_build.proofs.Encode.{encode_gives}
+use Rattle.op_build.proofs.RecipeTyped.{front_typed}
 
 recipe_run : (pair : Pair) (frame : List ℕ) (position : PixelPosition) (first : ℕ) → IsValidPair pair → pair.to.desc.palette ≡ false
     → All (λ byte. byte < 256) frame → position.y ≡ first + position.row
@@ -35,7 +37,8 @@ recipe_run pair frame position first valid none bytes dither across down =
     (run_from frame position stage (convert pair) values)) (decode_gives pair.from.desc frame position valid.from bytes)
     ∙ ap (run_from frame position (stage_from stage (convert pair)) (encode pair.to.desc)) gives.values
     ∙ ap (λ s. run_from frame position s (encode pair.to.desc)
-    (Fractions (four (coded pair position.width position.rows frame position.x position.row position.y)))) gives.rational
+    (Fractions (four (coded pair position.width position.rows frame position.x position.row position.y))))
+    (sym (stage_from-append Start (decode pair.from.desc) (convert pair)) ∙ (front_typed pair valid).leaves)
     ∙ encode_gives pair.to.desc frame position (result_of pair position.width position.rows first frame)
     (coded pair position.width position.rows frame position.x position.row position.y) valid.to none
     (results_fit pair position.width position.rows first frame none) gives.floors across down

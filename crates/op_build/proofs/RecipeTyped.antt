@@ -29,8 +29,7 @@ use Rattle.op_build.specs.ElementType.{element_type, is_swapped}
 use Rattle.op_build.specs.Codes.{decoded_type}
 use Rattle.op_build.specs.Recipe.{decode, convert, encode, recipe, only_if, from_codes, to_codes, slot_channels, source_of, spare_zero}
 use Rattle.op_build.specs.Recipe.{spare_zeros}
-use Rattle.op_build.proofs.Decode.{decode_stage}
-use Rattle.op_build.proofs.DecodeTyped.{decode_typed}
+use Rattle.op_build.proofs.DecodeTyped.{decode_part}
 use Rattle.pix_desc.proofs.ElementSlots.{HasElements}
 use Rattle.op_build.proofs.SlotNumbers.{channel_below}
 use Rattle.op_list.proofs.Four.{four_hold}
@@ -39,24 +38,7 @@ use Rattle.op_build.proofs.ElementTypes.{has_type, element_counts_are_good, fiel
 use Rattle.pix_desc.proofs.WordBits.{number_end}
 use Rattle.pix_desc.proofs.WordShape.{HasWord}
 
--- ---- the first part
-
-decode_length : (palette swapped elements : Bool) (a b c d e f g h i : Op)
-    → length (if palette then a ∷ b ∷ [] else c ∷ only_if swapped d ++ (if elements then e ∷ f ∷ [] else g ∷ []) ++ h ∷ i ∷ []) ≤ 6
-decode_length true swapped elements a b c d e f g h i = omega arith
-decode_length false true true a b c d e f g h i = omega arith
-decode_length false true false a b c d e f g h i = omega arith
-decode_length false false true a b c d e f g h i = omega arith
-decode_length false false false a b c d e f g h i = omega arith
-
-length-decode : (desc : Desc) → length (decode desc) ≤ 6
-unfolding decode
-length-decode desc = decode_length desc.palette (is_swapped desc) (is_elements desc) _ _ _ _ _ _ _ _ _
-
-decode_part : (desc : Desc) → IsValid desc → IsTyped Start (decode desc) (Typed (decoded_type desc)) 6
-decode_part desc valid = record { typed = decode_typed desc valid; leaves = decode_stage desc valid; size = length-decode desc }
-
--- ---- the second part
+-- ---- conversion
 
 -- of fractions
 codes_step : (plain : Bool) (by : ℚ) (rows : List (List ℚ)) (last : Stage) (ops : List Op) (most : ℕ) → IsTyped (Typed Rat) ops last most
@@ -113,7 +95,7 @@ convert_part pair elem within =
     (linear_steps (not (is_rgb pair.from.desc)) (not (is_rgb pair.to.desc)) _ _ (Typed Rat) _ 4
     (to_codes_step pair.to (Typed Rat) _ 3 (last_steps pair.dither _ _ within))))
 
--- ---- the third part
+-- ---- encoding
 
 source_below : (desc : Desc) (p : ℕ) (slot : Option ℕ) → p < 4 → ((j : ℕ) → slot ≡ Some j → j < 4) → nat_lt (source_of desc p slot) 4 ≡ true
 source_below desc p None below held = lt-ltb p 4 below
@@ -152,86 +134,67 @@ same_type U16 = refl
 same_type U32 = refl
 same_type Rat = refl
 
--- What is wanted of the arguments of an encoding, whose elements are put together by `joins`.
-record AreArguments (elem : PixType) (counts : List ℕ) (swapped : Bool) (positions : List ℕ) (entries : List (Option ℚ))
-    (joins : Op) : Type 0 where
-  whole : is_whole_type elem ≡ true
-  good : are_counts 4 counts ≡ true
-  wide : swapped ≡ true → is_wide (Typed elem) ≡ true
-  within : list_all (λ i. nat_lt i 4) positions ≡ true
-  fit : all_fit (bits elem) entries ≡ true
-  follows : may_follow (Typed elem) joins ≡ true
-  fits : are_good (Typed elem) joins ≡ true
-  stays : stage_after (Typed elem) joins ≡ Typed elem
-
-encode_steps : (elem : PixType) (counts : List ℕ) (swapped : Bool) (positions : List ℕ) (entries : List (Option ℚ)) (joins : Op)
-    → AreArguments elem counts swapped positions entries joins
-    → IsTyped (Typed Rat)
-    (Convert elem false ∷ Swizzle positions ∷ Clear entries ∷ joins ∷ only_if swapped SwapBytes ++ Write elem counts ∷ []) Ended 6
-unfolding may_follow are_good stage_after
-encode_steps elem counts swapped positions entries joins are =
-    one_more (Typed Rat) (Typed elem) Ended (Convert elem false) _ 5 refl refl refl
-    (one_more (Typed elem) (Typed elem) Ended (Swizzle positions) _ 4 refl are.within refl
-    (one_more (Typed elem) (Typed elem) Ended (Clear entries) _ 3 refl
-    (or_right (is_rational (Typed elem)) (all_fit (bits elem) entries) are.fit) refl
-    (one_more (Typed elem) (Typed elem) Ended joins _ 2 are.follows are.fits are.stays
-    (one_more_if swapped (Typed elem) Ended SwapBytes _ 1 are.wide refl refl
-    (one_more (Typed elem) Ended Ended (Write elem counts) [] 0 (same_type elem)
-    (and_from (is_whole_type elem) (are_counts 4 counts) are.whole are.good) refl (no_operations Ended))))))
-
 module _ (desc : Desc) (valid : IsValid desc) where
-  abbrev joining : Op → Type 0
-  joining joins = AreArguments (element_type desc) (element_counts desc) (is_swapped desc) (slot_channels desc) (spare_zeros desc) joins
+  abbrev elem : PixType
+  elem = element_type desc
 
-  arguments : (joins : Op) → may_follow (Typed (element_type desc)) joins ≡ true → are_good (Typed (element_type desc)) joins ≡ true
-      → stage_after (Typed (element_type desc)) joins ≡ Typed (element_type desc) → joining joins
-  arguments joins follows fits stays =
-      let typed = has_type desc valid in
-      record {
-        whole = typed.whole;
-        good = element_counts_are_good desc valid;
-        wide = typed.wide;
-        within = slot_channels_fit desc valid;
-        fit = spare_zeros_fit desc (bits (element_type desc));
-        follows = follows;
-        fits = fits;
-        stays = stays;
-      }
+  -- the operations behind the one that puts an element together
+  abbrev rest : List Op
+  rest = only_if (is_swapped desc) SwapBytes ++ Write elem (element_counts desc) ∷ []
 
-  element_arguments : HasElements desc (first_size desc)
-      → joining (if is_elements desc then LeftShift (component_of desc 0).shift else Pack (field_widths desc))
+  rest_part : IsTyped (Typed elem) rest Ended 2
   unfolding may_follow are_good stage_after
-  element_arguments is =
+  rest_part =
+      let typed = has_type desc valid in
+      one_more_if (is_swapped desc) (Typed elem) Ended SwapBytes (Write elem (element_counts desc) ∷ []) 1 typed.wide refl refl
+      (one_more (Typed elem) Ended Ended (Write elem (element_counts desc)) [] 0 (same_type elem)
+      (and_from (is_whole_type elem) (are_counts 4 (element_counts desc)) typed.whole (element_counts_are_good desc valid)) refl
+      (no_operations Ended))
+
+  abbrev join : Op
+  join = if is_elements desc then LeftShift (component_of desc 0).shift else Pack (field_widths desc)
+
+  element_part : HasElements desc (first_size desc) → IsTyped (Typed elem) (join ∷ rest) Ended 3
+  unfolding may_follow are_good stage_after
+  element_part is =
       let laid = laid_out desc valid in
       let typed = has_type desc valid in
       let shift = (component_of desc 0).shift in
-      let room : shift < bits (element_type desc) = omega
-      (arith, number_end desc laid 0 laid.some, typed.bits, is.bytes, laid.deep 0 laid.some) in
-      subst joining (sym (cond-true (is_elements desc) (LeftShift shift) (Pack (field_widths desc)) is.elements))
-      (arguments (LeftShift shift) typed.whole (lt-ltb shift (bits (element_type desc)) room) refl)
+      let room : shift < bits elem = omega (arith, number_end desc laid 0 laid.some, typed.bits, is.bytes, laid.deep 0 laid.some) in
+      subst (λ op. IsTyped (Typed elem) (op ∷ rest) Ended 3)
+      (sym (cond-true (is_elements desc) (LeftShift shift) (Pack (field_widths desc)) is.elements))
+      (one_more (Typed elem) (Typed elem) Ended (LeftShift shift) rest 2 typed.whole (lt-ltb shift (bits elem) room) refl rest_part)
 
-  word_arguments : HasWord desc → joining (if is_elements desc then LeftShift (component_of desc 0).shift else Pack (field_widths desc))
+  word_part : HasWord desc → IsTyped (Typed elem) (join ∷ rest) Ended 3
   unfolding may_follow are_good stage_after
-  word_arguments is =
-      let typed = has_type desc valid in
-      subst joining (sym (cond-false (is_elements desc) (LeftShift (component_of desc 0).shift) (Pack (field_widths desc)) is.word))
-      (arguments (Pack (field_widths desc)) typed.whole (field_widths_are_good desc is) refl)
+  word_part is =
+      subst (λ op. IsTyped (Typed elem) (op ∷ rest) Ended 3)
+      (sym (cond-false (is_elements desc) (LeftShift (component_of desc 0).shift) (Pack (field_widths desc)) is.word))
+      (one_more (Typed elem) (Typed elem) Ended (Pack (field_widths desc)) rest 2 (has_type desc valid).whole
+      (field_widths_are_good desc is) refl rest_part)
 
   encode_part : IsTyped (Typed Rat) (encode desc) Ended 6
-  unfolding encode
+  unfolding encode may_follow are_good stage_after
   encode_part =
-      encode_steps (element_type desc) (element_counts desc) (is_swapped desc) (slot_channels desc) (spare_zeros desc) _
-      (⊎_elim element_arguments word_arguments (has_layout desc valid))
+      one_more (Typed Rat) (Typed elem) Ended (Convert elem false) _ 5 refl refl refl
+      (one_more (Typed elem) (Typed elem) Ended (Swizzle (slot_channels desc)) _ 4 refl (slot_channels_fit desc valid) refl
+      (one_more (Typed elem) (Typed elem) Ended (Clear (spare_zeros desc)) (join ∷ rest) 3 refl
+      (or_right (is_rational (Typed elem)) (all_fit (bits elem) (spare_zeros desc)) (spare_zeros_fit desc (bits elem))) refl
+      (⊎_elim element_part word_part (has_layout desc valid))))
 
 -- ---- the whole
+
+-- decoding and conversion
+pub front_typed : (pair : Pair) → IsValidPair pair → IsTyped Start (decode pair.from.desc ++ convert pair) (Typed Rat) 14
+front_typed pair valid =
+    let elem = decoded_type pair.from.desc in
+    both_parts Start (Typed elem) (Typed Rat) (decode pair.from.desc) (convert pair) 6 8 (decode_part pair.from.desc valid.from)
+    (convert_part pair elem valid.dither)
 
 pub recipe_typed : (pair : Pair) → IsValidPair pair → IsTyped Start (recipe pair) Ended 20
 unfolding recipe
 recipe_typed pair valid =
-    let elem = decoded_type pair.from.desc in
-    both_parts Start (Typed Rat) Ended (decode pair.from.desc ++ convert pair) (encode pair.to.desc) 14 6
-    (both_parts Start (Typed elem) (Typed Rat) (decode pair.from.desc) (convert pair) 6 8 (decode_part pair.from.desc valid.from)
-    (convert_part pair elem valid.dither))
+    both_parts Start (Typed Rat) Ended (decode pair.from.desc ++ convert pair) (encode pair.to.desc) 14 6 (front_typed pair valid)
     (encode_part pair.to.desc valid.to)
 
 pub recipe_is_list : (pair : Pair) → IsValidPair pair → IsOpList (recipe pair)
