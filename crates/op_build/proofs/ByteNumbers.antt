@@ -1,9 +1,10 @@
 -- The bits of numbers of several bytes: little-endian ones, and those with their bytes in the other order.
-use Rattle.std.proofs.Common.{◌≡◌, ℕ, zero, suc, ◌+◌, ◌-◌, ◌*◌, ◌/◌, ◌%◌, ◌^◌, ◌<◌, ◌≤◌, ⊎_elim, Bool, true, false, if◌then◌else◌, List}
-use Rattle.std.proofs.Common.{get_or, sym, ap, ◌∙◌, arith}
+use Rattle.std.proofs.Common.{◌≡◌, ℕ, zero, suc, ◌+◌, ◌-◌, ◌*◌, ◌/◌, ◌%◌, ◌^◌, ◌<◌, ◌≤◌, ⊎_elim, Bool, true, false, not, ◌&&◌, nat_eq, if◌then◌else◌}
+use Rattle.std.proofs.Common.{List, get_or, sym, refl, ap, subst, ◌∙◌, arith}
 use Rattle.std.specs.Int.{bit_at}
-use Rattle.std.proofs.lemmas.Bool.{cases_lt}
-use Rattle.std.proofs.lemmas.Nat.Bits.{bit_at_cat_low, bit_at_cat_high}
+use Rattle.std.proofs.lemmas.Bool.{cases_lt, cases_eq, eq-eqb, ne_eqb}
+use Rattle.std.proofs.lemmas.Nat.{pow-add}
+use Rattle.std.proofs.lemmas.Nat.Bits.{bit_at_cat_low, bit_at_cat_high, same_from_bits_below}
 use Rattle.pix_desc.specs.Component.{bit_of}
 use Rattle.pix_desc.proofs.Bits.{bit_at_low_byte, bit_at_high_byte, bit_at_mod_byte, bit_at_div_byte}
 use Rattle.pix_desc.proofs.FrameExists.{bit_of_byte}
@@ -62,7 +63,35 @@ bit_at_in_order frame true count at m bytes inside =
     ∙ bit_at_number_at frame count at (8 * (count - 1 - m / 8) + m % 8) bytes (omega arith)
 bit_at_in_order frame false count at m bytes inside = bit_at_number_at frame count at m bytes inside
 
--- one byte is the same in either order
-pub one_byte_in_order : (frame : List ℕ) (at : ℕ) → ((k : ℕ) → get_or frame k 0 < 256)
-    → reversed_bytes 1 (number_at 1 frame at) ≡ number_at 1 frame at
-one_byte_in_order frame at bytes = omega (arith, bytes at)
+-- the number of some bytes fits them
+pub number_at-below : (frame : List ℕ) (count at : ℕ) → ((k : ℕ) → get_or frame k 0 < 256) → number_at count frame at < 2 ^ (8 * count)
+number_at-below frame zero at bytes = omega arith
+number_at-below frame (suc count) at bytes =
+    let more : 8 * suc count ≡ 8 * count + 8 = omega arith in
+    omega (arith, bytes at, number_at-below frame count (at + 1) bytes, ap (λ k. 2 ^ k) more, pow-add 2 (8 * count) 8)
+
+pub in_order-below : (be : Bool) (count n : ℕ) → n < 2 ^ (8 * count) → in_order be count n < 2 ^ (8 * count)
+in_order-below true count n small = omega (arith, reversed_bytes-below count n, power_of_bytes count)
+in_order-below false count n small = small
+
+-- turned round and back it is the number
+pub in_order-twice : (be : Bool) (count n : ℕ) → n < 2 ^ (8 * count) → in_order be count (in_order be count n) ≡ n
+in_order-twice true count n small =
+    same_from_bits_below (8 * count) (in_order true count (in_order true count n)) n
+    (in_order-below true count (in_order true count n) (in_order-below true count n small)) small (λ m inside.
+    let k = 8 * (count - 1 - m / 8) + m % 8 in
+    bit_at_reversed count (reversed_bytes count n) m inside
+    ∙ bit_at_reversed count n k (omega arith)
+    ∙ ap (bit_at n) (let e : 8 * (count - 1 - k / 8) + k % 8 ≡ m = omega arith in e))
+in_order-twice false count n small = refl
+
+-- a number of one byte needs no turning round
+pub swap_needed : (be : Bool) (count n : ℕ) → n < 2 ^ (8 * count) → in_order (be && not (nat_eq count 1)) count n ≡ in_order be count n
+swap_needed false count n small = refl
+swap_needed true count n small =
+    ⊎_elim
+    (λ (one : count ≡ 1).
+    let byte : n < 256 = omega (arith, ap (λ c. 2 ^ (8 * c)) one) in
+    ap (λ b. in_order (not b) count n) (eq-eqb count 1 one) ∙ subst (λ c. n ≡ reversed_bytes c n) (sym one) (omega arith))
+    (λ more. ap (λ b. in_order (not b) count n) (ne_eqb count 1 more))
+    (cases_eq count 1)

@@ -27,7 +27,7 @@ use Rattle.op_list.specs.Typing.{stage_from}
 use Rattle.pix_desc.specs.Shape.{element_counts, field_widths, position_of}
 use Rattle.op_build.specs.ElementType.{element_type, is_swapped}
 use Rattle.op_build.specs.Recipe.{decode, split, channel_slots, missing_codes}
-use Rattle.op_build.proofs.ByteNumbers.{in_order, one_byte_in_order}
+use Rattle.op_build.proofs.ByteNumbers.{in_order, number_at-below, swap_needed}
 use Rattle.pix_meaning.proofs.ChannelCodes.{code_of-there, code_of-missing, plain_component, channel_listed}
 use Rattle.op_build.proofs.Codes.{in_channels}
 use Rattle.pix_meaning.specs.Channels.{code_of}
@@ -40,19 +40,6 @@ use Rattle.pix_desc.proofs.PixelSlots.{first_size, has_layout, has_slots, compon
 use Rattle.op_build.proofs.ElementTypes.{has_type}
 use Rattle.pix_desc.proofs.WordBits.{number_end}
 use Rattle.pix_desc.proofs.WordShape.{HasWord}
-
--- a number of one byte needs no turning round
-swap_needed : (frame : List ℕ) (be : Bool) (size at : ℕ) → ((k : ℕ) → get_or frame k 0 < 256)
-    → in_order (be && not (nat_eq size 1)) size (number_at size frame at) ≡ in_order be size (number_at size frame at)
-swap_needed frame false size at bytes = refl
-swap_needed frame true size at bytes =
-    let number = number_at size frame at in
-    ⊎_elim
-    (λ (one : size ≡ 1).
-    ap (λ b. in_order (not b) size number) (eq-eqb size 1 one)
-    ∙ subst (λ s. number_at s frame at ≡ in_order true s (number_at s frame at)) (sym one) (sym (one_byte_in_order frame at bytes)))
-    (λ more. ap (λ b. in_order (not b) size number) (ne_eqb size 1 more))
-    (cases_eq size 1)
 
 module _ (desc : Desc) (frame : List ℕ) (position : PixelPosition) (valid : IsValid desc) (all_bytes : All (λ byte. byte < 256) frame) where
   component_here : ℕ → ℕ
@@ -76,7 +63,7 @@ module _ (desc : Desc) (frame : List ℕ) (position : PixelPosition) (valid : Is
         ap (in_order (is_swapped desc) (bytes elem)) (element_of-is elem (element_counts desc) frame position i within)
         ∙ ap (λ t. in_order (is_swapped desc) t (number_at t frame (at * t))) bytes_are
         ∙ ap (λ b. in_order b size (number_at size frame (at * size))) (typed.swapped ∙ ap (λ t. desc.be && not (nat_eq t 1)) is.bytes)
-        ∙ swap_needed frame desc.be size (at * size) small
+        ∙ swap_needed desc.be size (number_at size frame (at * size)) (number_at-below frame size (at * size) small)
 
     -- a component is a field of its element
     component_field_is : (j : ℕ) → j < desc.count

@@ -19,9 +19,8 @@ use Rattle.op_list.specs.Types.{bits, bytes}
 use Rattle.op_list.proofs.Stored.{element_of-is}
 use Rattle.op_build.specs.ElementType.{element_type, is_swapped}
 use Rattle.op_build.specs.Recipe.{slot_channels, spare_zeros}
-use Rattle.op_build.proofs.ByteNumbers.{in_order}
+use Rattle.op_build.proofs.ByteNumbers.{in_order, number_at-below, in_order-below, in_order-twice, swap_needed}
 use Rattle.op_build.proofs.ElementTypes.{has_type}
-use Rattle.op_build.proofs.EncodeOrder.{turned_back, ordered_below}
 use Rattle.op_build.proofs.EncodeRuns.{placed_code}
 use Rattle.op_build.proofs.NumberBits as Number
 use Rattle.op_build.proofs.NumberBits.{content, held_below, slot_number}
@@ -61,8 +60,8 @@ module _ (desc : Desc) (position : PixelPosition) (value : ℕ → ℕ → ℕ �
 
     pub number_below : (e : ℕ) → number_of e < 2 ^ (8 * s.size)
     number_below e =
-        ordered_below made small desc.be s.size
-        (element_in (pixel_count position) (pixel_number position) 0 (element_counts desc) e * s.size) is.size
+        let at = element_in (pixel_count position) (pixel_number position) 0 (element_counts desc) e * s.size in
+        in_order-below desc.be s.size (number_at s.size made at) (number_at-below made s.size at small)
 
     pub type_bits : bits (element_type desc) ≡ 8 * s.size
     type_bits = (has_type desc gives.valid).bits ∙ ap (λ t. 8 * t) is.bytes
@@ -104,6 +103,7 @@ module _ (desc : Desc) (position : PixelPosition) (value : ℕ → ℕ → ℕ �
         ap (in_order (is_swapped desc) (bytes elem)) (sym is_number)
         ∙ ap (λ b. in_order b (bytes elem) (number_of e)) (typed.swapped ∙ ap (λ t. desc.be && not (nat_eq t 1)) is.bytes)
         ∙ ap (λ t. in_order (desc.be && not (nat_eq size 1)) t (number_of e)) bytes_are
-        ∙ turned_back made small desc.be size (at * size) is.size
+        ∙ swap_needed desc.be size (number_of e) (number_below e)
+        ∙ in_order-twice desc.be size (number_at size made (at * size)) (number_at-below made size (at * size) small)
         ∙ ap (λ t. number_at t made (at * t)) (sym bytes_are)
         ∙ sym (element_of-is elem (element_counts desc) made position_again e within)

@@ -11,7 +11,6 @@ pub mod ConvertClamp
 pub mod Convert
 pub mod EncodeRuns
 pub mod SlotNumbers
-pub mod EncodeOrder
 pub mod SlotBits
 pub mod NumberBits
 pub mod EncodeSlots
