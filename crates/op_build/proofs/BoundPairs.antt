@@ -151,14 +151,6 @@ least_limits pair = limits pair.to.desc (λ c. nat 0)
 abbrev greatest_limits : Pair → List (Option ℚ)
 greatest_limits pair = limits pair.to.desc (λ c. nat (2 ^ channel_depth pair.to.desc c - 1))
 
-from_raw : (side : Side) → from_codes side ≡ from_codes_by (class_levels (raw_class side))
-unfolding from_codes
-from_raw side = refl
-
-to_raw : (side : Side) → to_codes side ≡ to_codes_by (class_levels (raw_class side))
-unfolding to_codes
-to_raw side = refl
-
 in_parts : (a b : Bool) (first x y last : Op) (tail : List Op)
     → (Convert Rat Bool.false ∷ first ∷ only_if a x ++ only_if b y ++ last ∷ tail)
     ≡ (Convert Rat Bool.false ∷ ((first ∷ only_if a x) ++ (only_if b y ++ last ∷ tail)))
@@ -167,31 +159,20 @@ in_parts true false first x y last tail = refl
 in_parts false true first x y last tail = refl
 in_parts false false first x y last tail = refl
 
-convert_raw : (pair : Pair)
-    → convert pair
-    ≡ Convert Rat Bool.false ∷ class_list (raw_class pair.from) (raw_class pair.to) pair.dither (least_limits pair) (greatest_limits pair)
-unfolding convert
-convert_raw pair =
-    let tail = Dither pair.dither ∷ Max (least_limits pair) ∷ Min (greatest_limits pair) ∷ [] in
-    let to_rows = Linear (over_three (to_rgb_rows pair.from.matrix)) in
-    let from_rows = Linear (over_three (from_rgb_rows pair.to.matrix)) in
-    in_parts (not (is_rgb pair.from.desc)) (not (is_rgb pair.to.desc)) (from_codes pair.from) to_rows from_rows (to_codes pair.to) tail
-    ∙ ap (λ op. Convert Rat Bool.false ∷ ((op ∷ only_if (not (is_rgb pair.from.desc)) to_rows) ++ (target_rows_ops
-    (raw_class pair.to) ++ to_codes pair.to ∷ tail))) (from_raw pair.from)
-    ∙ ap (λ op. Convert Rat Bool.false ∷ (source_ops (raw_class pair.from) ++ (target_rows_ops (raw_class pair.to) ++ op ∷ tail)))
-    (to_raw pair.to)
-
 convert_classes : (pair : Pair)
     → convert pair
     ≡ Convert Rat Bool.false ∷ class_list (side_class pair.from) (side_class pair.to) pair.dither (least_limits pair) (greatest_limits pair)
+unfolding convert from_codes to_codes
 convert_classes pair =
+    let from = pair.from in
+    let to = pair.to in
     let tail = Dither pair.dither ∷ Max (least_limits pair) ∷ Min (greatest_limits pair) ∷ [] in
-    convert_raw pair
-    ∙ ap (λ ops. Convert Rat Bool.false ∷ ops)
-    (ap (λ ops. ops ++ (target_rows_ops (raw_class pair.to) ++ to_codes_by (class_levels (raw_class pair.to)) ∷ tail))
-    (source_same (is_rgb pair.from.desc) (four (λ c. channel_depth pair.from.desc c)) pair.from.range pair.from.matrix)
-    ∙ ap (λ ops. source_ops (side_class pair.from) ++ ops)
-    (target_same (is_rgb pair.to.desc) (four (λ c. channel_depth pair.to.desc c)) pair.to.range pair.to.matrix tail))
+    in_parts (not (is_rgb from.desc)) (not (is_rgb to.desc)) (from_codes from) (Linear (over_three (to_rgb_rows from.matrix)))
+    (Linear (over_three (from_rgb_rows to.matrix))) (to_codes to) tail
+    ∙ ap (λ ops. Convert Rat Bool.false ∷ (ops ++ (target_rows_ops (raw_class to) ++ to_codes_by (class_levels (raw_class to)) ∷ tail)))
+    (source_same (is_rgb from.desc) (four (λ c. channel_depth from.desc c)) from.range from.matrix)
+    ∙ ap (λ ops. Convert Rat Bool.false ∷ (source_ops (side_class from) ++ ops))
+    (target_same (is_rgb to.desc) (four (λ c. channel_depth to.desc c)) to.range to.matrix tail)
 
 -- ---- from the codes
 codes_bounded : (code depth : ℕ → ℕ) → ((c : ℕ) → c < 4 → code c < 2 ^ depth c)

@@ -53,7 +53,7 @@ coded pair width rows frame x row y c =
 
 -- ---- their floors are the results
 
-pub coded_floor : (pair : Pair) (width rows first : ℕ) (frame : List ℕ) (j x row : ℕ) → IsValidPair pair → j < component_count pair.to.desc
+coded_floor : (pair : Pair) (width rows first : ℕ) (frame : List ℕ) (j x row : ℕ) → IsValidPair pair → j < component_count pair.to.desc
     → floor (coded pair width rows frame x row (first + row) (channel_of pair.to.desc j))
     ≡ pos (result_of pair width rows first frame j x row)
 unfolding coded result_of wanted
@@ -157,23 +157,12 @@ convert_run pair frame position stage valid =
     (from_codes-applied frame position (Typed Rat) pair.from (λ c. nat (code c)) ∙ source_read pair.from frame position valid.from)
     ∙ middle_run frame position after pair (source_values pair.from position.width position.rows frame position.x position.row) valid
 
--- what converting gives at a pixel: values for the encoding, and their floors
-pub record ConvertGives (pair : Pair) (frame : List ℕ) (position : PixelPosition) (stage : Stage) (first : ℕ) : Type 0 where
-  pub values : run_from frame position stage (convert pair)
-      (Numbers (four (code_of pair.from.desc position.width position.rows frame position.x position.row)))
-      ≡ Fractions (four (coded pair position.width position.rows frame position.x position.row position.y))
-  pub floors : (j : ℕ) → j < pair.to.desc.count
-      → floor (coded pair position.width position.rows frame position.x position.row position.y (channel_of pair.to.desc j))
-      ≡ pos (result_of pair position.width position.rows first frame j position.x position.row)
-
-pub convert_gives : (pair : Pair) (frame : List ℕ) (position : PixelPosition) (stage : Stage) (first : ℕ) → IsValidPair pair
-    → pair.to.desc.palette ≡ false → position.y ≡ first + position.row
-    → ConvertGives pair frame position stage first
-convert_gives pair frame position stage first valid none here =
+-- and their floors are the results
+pub floors_are : (pair : Pair) (frame : List ℕ) (position : PixelPosition) (first j : ℕ) → IsValidPair pair → pair.to.desc.palette ≡ false
+    → position.y ≡ first + position.row → j < pair.to.desc.count
+    → floor (coded pair position.width position.rows frame position.x position.row position.y (channel_of pair.to.desc j))
+    ≡ pos (result_of pair position.width position.rows first frame j position.x position.row)
+floors_are pair frame position first j valid none here listed =
     let counted : component_count pair.to.desc ≡ pair.to.desc.count = cond-false pair.to.desc.palette 4 pair.to.desc.count none in
-    record {
-      values = convert_run pair frame position stage valid;
-      floors = λ j listed.
-          ap (λ y. floor (coded pair position.width position.rows frame position.x position.row y (channel_of pair.to.desc j))) here
-          ∙ coded_floor pair position.width position.rows first frame j position.x position.row valid (omega (arith, counted));
-    }
+    ap (λ y. floor (coded pair position.width position.rows frame position.x position.row y (channel_of pair.to.desc j))) here
+    ∙ coded_floor pair position.width position.rows first frame j position.x position.row valid (omega (arith, counted))

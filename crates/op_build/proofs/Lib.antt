@@ -10,7 +10,6 @@ pub mod ConvertSteps
 pub mod ConvertClamp
 pub mod Convert
 pub mod EncodeRuns
-pub mod SlotNumbers
 pub mod SlotBits
 pub mod NumberBits
 pub mod EncodeSlots

@@ -16,7 +16,7 @@ use Rattle.op_list.proofs.Typed.{stage_from-append}
 use Rattle.op_build.specs.Recipe.{decode, convert, encode, recipe}
 use Rattle.op_build.specs.Meaning.{elements_at, MeansItsTarget}
 use Rattle.op_build.proofs.Decode.{decode_gives}
-use Rattle.op_build.proofs.Convert.{convert_gives, coded}
+use Rattle.op_build.proofs.Convert.{coded, convert_run, floors_are}
 use Rattle.op_build.proofs.Encode.{encode_gives}
 use Rattle.op_build.proofs.RecipeTyped.{front_typed}
 
@@ -31,17 +31,17 @@ recipe_run : (pair : Pair) (frame : List ℕ) (position : PixelPosition) (first 
 unfolding recipe
 recipe_run pair frame position first valid none bytes dither across down =
     let stage = stage_from Start (decode pair.from.desc) in
-    let gives = convert_gives pair frame position stage first valid none dither in
     run_from-three frame position Start (decode pair.from.desc) (convert pair) (encode pair.to.desc) no_values
     ∙ ap (λ values. run_from frame position (stage_from stage (convert pair)) (encode pair.to.desc)
     (run_from frame position stage (convert pair) values)) (decode_gives pair.from.desc frame position valid.from bytes)
-    ∙ ap (run_from frame position (stage_from stage (convert pair)) (encode pair.to.desc)) gives.values
+    ∙ ap (run_from frame position (stage_from stage (convert pair)) (encode pair.to.desc)) (convert_run pair frame position stage valid)
     ∙ ap (λ s. run_from frame position s (encode pair.to.desc)
     (Fractions (four (coded pair position.width position.rows frame position.x position.row position.y))))
     (sym (stage_from-append Start (decode pair.from.desc) (convert pair)) ∙ (front_typed pair valid).leaves)
     ∙ encode_gives pair.to.desc frame position (result_of pair position.width position.rows first frame)
     (coded pair position.width position.rows frame position.x position.row position.y) valid.to none
-    (results_fit pair position.width position.rows first frame none) gives.floors across down
+    (results_fit pair position.width position.rows first frame none)
+    (λ j listed. floors_are pair frame position first j valid none dither listed) across down
 
 pub means_target : (pair : Pair) → MeansItsTarget pair
 unfolding run target_rows

@@ -31,7 +31,7 @@ use Rattle.op_build.specs.Recipe.{decode, convert, encode, recipe, only_if, from
 use Rattle.op_build.specs.Recipe.{spare_zeros}
 use Rattle.op_build.proofs.DecodeTyped.{decode_part}
 use Rattle.pix_desc.proofs.ElementSlots.{HasElements}
-use Rattle.op_build.proofs.SlotNumbers.{channel_below}
+use Rattle.op_build.proofs.EncodeSlots.{channel_below}
 use Rattle.op_list.proofs.Four.{four_hold}
 use Rattle.pix_desc.proofs.PixelSlots.{first_size, has_layout, has_slots}
 use Rattle.op_build.proofs.ElementTypes.{has_type, element_counts_are_good, field_widths_are_good}

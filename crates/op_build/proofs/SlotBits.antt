@@ -61,45 +61,34 @@ element_bits desc = record {
   rest = λ j. count_of (first_byte desc (component_of desc j)) / first_size desc;
 }
 
-module _ (desc : Desc) (valid : IsValid desc) (is : HasElements desc (first_size desc)) where
-  in_plane : (j : ℕ) → j < desc.count
-      → IsInPlane (element_counts desc) (position_of desc j) (component_of desc j).plane ((element_bits desc).rest j)
-  in_plane j listed =
-      let laid = laid_out desc valid in
-      record {
-        plane = omega (arith, length-counts desc, laid.plane j listed);
-        inside = first_in_plane desc (first_size desc) laid is j listed;
-        index = element_position desc j laid is listed ∙ element_index_is desc (first_size desc) laid is j;
-      }
-
-  bit_there : (j b : ℕ) → j < desc.count → b < (component_of desc j).depth
-      → Bit.position_of desc (component_of desc j) ((component_of desc j).shift + b)
-      ≡ 8 * ((element_bits desc).rest j * first_size desc) + bit_in_order desc.be (first_size desc) (lowest_bit desc (element_bits desc) j + b)
-  bit_there j b listed inside =
-      let size = first_size desc in
-      let c = component_of desc j in
-      let first = count_of (first_byte desc c) in
-      let whole : first ≡ first / size * size = omega (arith, div-add-mod' first size, is.first j listed) in
-      let low : c.shift + b ≡ lowest_bit desc (element_bits desc) j + b = omega (arith, is.shift j listed) in
-      number_bit_position desc (laid_out desc valid) j listed b inside
-      ∙ ap (λ s. 8 * first + bit_in_order desc.be s (c.shift + b)) (is.read j listed)
-      ∙ ap (λ f. 8 * f + bit_in_order desc.be size (c.shift + b)) whole
-      ∙ ap (λ m. 8 * (first / size * size) + bit_in_order desc.be size m) low
-
-  pub are_element_bits : AreSlotBits desc (element_bits desc)
-  are_element_bits =
-      let laid = laid_out desc valid in
-      record {
-        size = subst IsSize is.bytes (element_size desc is);
-        bytes = is.bytes;
-        step = is.step;
-        within = λ p within. omega (arith, length-slots desc (first_size desc) laid is);
-        room = λ p within. omega arith;
-        inside = λ j listed. omega (arith, number_end desc laid j listed, is.read j listed, is.shift j listed);
-        there = in_plane;
-        bits = bit_there;
-        apart = λ p q m first second same low high also_low also_high. same;
-      }
+pub are_element_bits : (desc : Desc) → IsValid desc → HasElements desc (first_size desc) → AreSlotBits desc (element_bits desc)
+are_element_bits desc valid is =
+    let laid = laid_out desc valid in
+    let size = first_size desc in
+    record {
+      size = subst IsSize is.bytes (element_size desc is);
+      bytes = is.bytes;
+      step = is.step;
+      within = λ p within. omega (arith, length-slots desc size laid is);
+      room = λ p within. omega arith;
+      inside = λ j listed. omega (arith, number_end desc laid j listed, is.read j listed, is.shift j listed);
+      there = λ j listed.
+          record {
+            plane = omega (arith, length-counts desc, laid.plane j listed);
+            inside = first_in_plane desc size laid is j listed;
+            index = element_position desc j laid is listed ∙ element_index_is desc size laid is j;
+          };
+      bits = λ j b listed inside.
+          let c = component_of desc j in
+          let first = count_of (first_byte desc c) in
+          let whole : first ≡ first / size * size = omega (arith, div-add-mod' first size, is.first j listed) in
+          let low : c.shift + b ≡ lowest_bit desc (element_bits desc) j + b = omega (arith, is.shift j listed) in
+          number_bit_position desc laid j listed b inside
+          ∙ ap (λ s. 8 * first + bit_in_order desc.be s (c.shift + b)) (is.read j listed)
+          ∙ ap (λ f. 8 * f + bit_in_order desc.be size (c.shift + b)) whole
+          ∙ ap (λ m. 8 * (first / size * size) + bit_in_order desc.be size m) low;
+      apart = λ p q m first second same low high also_low also_high. same;
+    }
 
 -- ---- the fields of a word
 
@@ -128,9 +117,6 @@ same_field widths p q m first second low high low_too high_too =
     (cases_lt q p))
     (cases_lt p q)
 
-sum_drop : (ns : List ℕ) (k : ℕ) → sum (drop k ns) ≤ sum ns
-sum_drop ns k = omega (arith, sum_by-take-drop (λ n. n) ns k)
-
 only_element : IsInPlane (1 ∷ 0 ∷ 0 ∷ 0 ∷ []) 0 0 0
 only_element = record { plane = omega arith; inside = omega arith; index = refl }
 
@@ -138,43 +124,37 @@ no_rest : (size : ℕ) → IsSize size → size % size ≡ 0
 no_rest size sizes =
     ⊎_elim (λ one. ap (λ s. s % s) one) (λ more. ⊎_elim (λ two. ap (λ s. s % s) two) (λ four. ap (λ s. s % s) four) more) sizes
 
-module _ (desc : Desc) (valid : IsValid desc) (is : HasWord desc) where
-  slot_within : (p : ℕ) → p < length (slots desc) → p < length (field_widths desc)
-  slot_within p within = omega (arith, length-field_widths desc, (has_slots desc valid).few)
-
-  bit_in_word : (j b : ℕ) → j < desc.count → b < (component_of desc j).depth
-      → Bit.position_of desc (component_of desc j) ((component_of desc j).shift + b)
-      ≡ 8 * (0 * (component_of desc 0).step) + bit_in_order desc.be (component_of desc 0).step (lowest_bit desc (field_bits desc) j + b)
-  bit_in_word j b listed inside =
-      let laid = laid_out desc valid in
-      let m = word_shift desc (component_of desc j) + b in
-      let low : m ≡ lowest_bit desc (field_bits desc) j + b = omega (arith, (component_field desc j laid is listed).1) in
-      word_bit_position desc laid j listed b inside
-      ∙ ap (λ s. bit_in_order desc.be s m) (is.step j listed)
-      ∙ ap (bit_in_order desc.be (component_of desc 0).step) low
-      ∙ omega arith
-
-  pub are_field_bits : AreSlotBits desc (field_bits desc)
-  are_field_bits =
-      let widths = field_widths desc in
-      let laid = laid_out desc valid in
-      record {
-        size = is.size;
-        bytes = is.bytes;
-        step = λ j listed. ap (λ s. s % (component_of desc 0).step) (is.step j listed) ∙ no_rest (component_of desc 0).step is.size;
-        within = λ p within. omega (arith, ap sum is.counts);
-        room =
-            λ p within. omega
-            (arith, sum-widths desc is, sum_drop widths p, sum_by-drop_more (λ n. n) widths p 0 (slot_within p within));
-        inside = λ j listed. omega (arith, (component_field desc j laid is listed).0);
-        there =
-            λ j listed. subst (λ p. IsInPlane (element_counts desc) 0 p 0) (sym (is.plane j listed))
-            (subst (λ counts. IsInPlane counts 0 0 0) (sym is.counts) only_element);
-        bits = bit_in_word;
-        apart =
-            λ p q m first second same low high also_low also_high. same_field widths p q m (slot_within p first) (slot_within q second)
-            low high also_low also_high;
-      }
+pub are_field_bits : (desc : Desc) → IsValid desc → HasWord desc → AreSlotBits desc (field_bits desc)
+are_field_bits desc valid is =
+    let widths = field_widths desc in
+    let laid = laid_out desc valid in
+    let size = (component_of desc 0).step in
+    let listed_width = λ (p : ℕ) (within : p < length (slots desc)).
+    let e : p < length widths = omega (arith, length-field_widths desc, (has_slots desc valid).few) in e in
+    record {
+      size = is.size;
+      bytes = is.bytes;
+      step = λ j listed. ap (λ s. s % size) (is.step j listed) ∙ no_rest size is.size;
+      within = λ p within. omega (arith, ap sum is.counts);
+      room = λ p within. omega (
+            arith,
+            sum-widths desc is,
+            sum_by-take-drop (λ n. n) widths p,
+            sum_by-drop_more (λ n. n) widths p 0 (listed_width p within),
+          );
+      inside = λ j listed. omega (arith, (component_field desc j laid is listed).0);
+      there = λ j listed. subst (λ p. IsInPlane (element_counts desc) 0 p 0) (sym (is.plane j listed))
+          (subst (λ counts. IsInPlane counts 0 0 0) (sym is.counts) only_element);
+      bits = λ j b listed inside.
+          let m = word_shift desc (component_of desc j) + b in
+          let low : m ≡ lowest_bit desc (field_bits desc) j + b = omega (arith, (component_field desc j laid is listed).1) in
+          word_bit_position desc laid j listed b inside
+          ∙ ap (λ s. bit_in_order desc.be s m) (is.step j listed)
+          ∙ ap (bit_in_order desc.be size) low
+          ∙ omega arith;
+      apart = λ p q m first second same low high also_low also_high.
+          same_field widths p q m (listed_width p first) (listed_width q second) low high also_low also_high;
+    }
 
 -- the bits of the slots, whichever layout it is
 pub has_slot_bits : (desc : Desc) → IsValid desc → (s : SlotBits) × AreSlotBits desc s
