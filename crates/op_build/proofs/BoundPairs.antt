@@ -26,7 +26,7 @@ use Rattle.op_list.specs.Apply.{apply}
 use Rattle.op_list.specs.Checked.{checked_apply}
 use Rattle.op_list.specs.Run.{run_from, checked_run_from}
 use Rattle.pix_meaning.specs.Channels.{channel_depth}
-use Rattle.op_build.specs.Recipe.{only_if, over_three, from_codes, to_codes, from_codes_by, to_codes_by, limits, convert}
+use Rattle.op_build.specs.Recipe.{only_if, over_three, from_codes, to_codes, to_codes_by, limits, convert}
 use Rattle.op_range.specs.FractionBounds.{FractionBound, HaveBounds, bound_in, limited_bound, bounds_after, bounds_from}
 use Rattle.op_build.specs.SideClasses.{SideClass, side_class_of, side_class, side_classes, IsOneOf}
 use Rattle.op_build.proofs.ClassTests.{class_levels, source_ops, target_rows_ops, code_bounds, is_there, test_then, target_fits}

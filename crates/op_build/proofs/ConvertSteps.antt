@@ -21,7 +21,6 @@ use Rattle.op_list.specs.declared.values.Values.TheVariants.{Fractions}
 use Rattle.op_list.specs.Values.{four}
 use Rattle.op_list.specs.Apply.{apply}
 use Rattle.op_list.specs.Run.{run_from}
-use Rattle.op_list.specs.Typing.{stage_after, stage_from}
 use Rattle.op_list.proofs.Four.{same_four}
 use Rattle.pix_meaning.specs.Channels.{channel_levels}
 use Rattle.op_build.specs.Recipe.{only_if, are_plain, diagonal, over_three, from_codes, to_codes}

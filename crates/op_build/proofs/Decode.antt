@@ -1,23 +1,18 @@
 -- Decoding gives the codes of the channels.
-use Rattle.std.proofs.Common.{◌≡◌, ◌<◌, ℕ, ⊎_elim, true, List, All, ap, sym, ◌∙◌}
-use Rattle.std.proofs.lemmas.Bool.{cases_Bool, cond-true, cond-false}
+use Rattle.std.proofs.Common.{◌≡◌, ◌<◌, ℕ, ⊎_elim, List, All}
+use Rattle.std.proofs.lemmas.Bool.{cases_Bool}
 use Rattle.pix_desc.specs.declared.desc.Desc.{Desc}
 use Rattle.pix_desc.specs.Layouts.{IsValid}
 use Rattle.op_list.specs.declared.position.PixelPosition.{PixelPosition}
-use Rattle.op_list.specs.declared.types.PixType.TheVariants.{U8}
-use Rattle.op_list.specs.declared.types.Stage.TheVariants.{Start, Typed}
+use Rattle.op_list.specs.declared.types.Stage.TheVariants.{Start}
 use Rattle.op_list.specs.declared.values.Values.TheVariants.{Numbers}
-use Rattle.op_list.specs.Types.{is_whole_type}
 use Rattle.op_list.specs.Values.{four, no_values}
 use Rattle.op_list.specs.Run.{run_from}
-use Rattle.op_list.specs.Typing.{stage_from}
 use Rattle.op_build.specs.Recipe.{decode}
-use Rattle.op_build.specs.ElementType.{element_type}
 use Rattle.pix_meaning.specs.Channels.{code_of}
-use Rattle.op_build.specs.Codes.{decoded_type, GivesCodes, IsWholeTyped}
+use Rattle.op_build.specs.Codes.{GivesCodes}
 use Rattle.op_build.proofs.DecodePlain.{decode_plain}
 use Rattle.op_build.proofs.DecodePalette.{decode_palette}
-use Rattle.op_build.proofs.ElementTypes.{has_type}
 
 pub decode_gives : (desc : Desc) (frame : List ℕ) (position : PixelPosition) → IsValid desc → All (λ byte. byte < 256) frame
     → run_from frame position Start (decode desc) no_values

@@ -19,13 +19,12 @@ use Rattle.pix_meaning.specs.Values.{entry_component, source_component}
 use Rattle.op_list.specs.declared.op.Op.TheVariants.{Read, Clear}
 use Rattle.op_list.specs.declared.position.PixelPosition.{PixelPosition}
 use Rattle.op_list.specs.declared.types.PixType.TheVariants.{U8}
-use Rattle.op_list.specs.declared.types.Stage.TheVariants.{Start, Typed}
+use Rattle.op_list.specs.declared.types.Stage.TheVariants.{Start}
 use Rattle.op_list.specs.declared.values.Values.TheVariants.{Numbers}
 use Rattle.op_list.specs.Values.{four, no_values}
 use Rattle.op_list.specs.Pixel.{number_at, palette_colours, pixel_count, pixel_number}
 use Rattle.op_list.specs.Apply.{cleared_number}
 use Rattle.op_list.specs.Run.{run_from}
-use Rattle.op_list.specs.Typing.{stage_from, stage_after}
 use Rattle.pix_meaning.specs.Channels.{missing_code}
 use Rattle.op_build.specs.Recipe.{decode, missing_codes, split, channel_slots}
 use Rattle.pix_desc.specs.Shape.{element_counts}

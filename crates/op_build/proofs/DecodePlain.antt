@@ -1,8 +1,8 @@
 -- Decoding gives the codes of the channels of a format without a palette.
-use Rattle.std.proofs.Common.{◌≡◌, ℕ, ◌+◌, ◌-◌, ◌*◌, ◌/◌, ◌%◌, ◌^◌, ◌<◌, ◌≤◌, ⊎_elim, Bool, true, false, not, ◌&&◌, nat_eq, List, [], ◌∷◌}
-use Rattle.std.proofs.Common.{All, get_or, sym, refl, ap, subst, ◌∙◌, arith}
+use Rattle.std.proofs.Common.{◌≡◌, ℕ, ◌+◌, ◌-◌, ◌*◌, ◌/◌, ◌%◌, ◌^◌, ◌<◌, ◌≤◌, ⊎_elim, true, false, not, ◌&&◌, nat_eq, List, [], ◌∷◌}
+use Rattle.std.proofs.Common.{All, get_or, sym, ap, ◌∙◌, arith}
 use Rattle.std.specs.Prelude.{sum}
-use Rattle.std.proofs.lemmas.Bool.{cases_eq, cond-true, cond-false, eq-eqb, ne_eqb}
+use Rattle.std.proofs.lemmas.Bool.{cond-true, cond-false}
 use Rattle.pix_desc.specs.declared.desc.Desc.{Desc}
 use Rattle.pix_desc.specs.Component.{component_of}
 use Rattle.pix_desc.specs.Frame.{frame_component}
@@ -14,7 +14,7 @@ use Rattle.op_list.specs.declared.op.Op.{Op}
 use Rattle.op_list.specs.declared.op.Op.TheVariants.{Read, Unpack, Clear, LeftShift, RightShift}
 use Rattle.op_list.specs.declared.position.PixelPosition.{PixelPosition}
 use Rattle.op_list.specs.declared.types.PixType.TheVariants.{U8}
-use Rattle.op_list.specs.declared.types.Stage.TheVariants.{Start, Typed}
+use Rattle.op_list.specs.declared.types.Stage.TheVariants.{Start}
 use Rattle.op_list.specs.declared.values.Values.TheVariants.{Numbers}
 use Rattle.op_list.specs.Types.{bits, bytes}
 use Rattle.op_list.specs.Values.{four, no_values}
@@ -23,7 +23,6 @@ use Rattle.op_list.specs.Pixel.{number_at, element_in, pixel_count, pixel_number
 use Rattle.op_list.specs.Apply.{cleared, swizzled}
 use Rattle.op_list.specs.Run.{run_from}
 use Rattle.op_list.proofs.Stored.{element_of-is}
-use Rattle.op_list.specs.Typing.{stage_from}
 use Rattle.pix_desc.specs.Shape.{element_counts, field_widths, position_of}
 use Rattle.op_build.specs.ElementType.{element_type, is_swapped}
 use Rattle.op_build.specs.Recipe.{decode, split, channel_slots, missing_codes}

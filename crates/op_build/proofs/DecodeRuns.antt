@@ -6,7 +6,7 @@ use Rattle.op_list.specs.declared.op.Op.TheVariants.{Read, SwapBytes, Unpack, Cl
 use Rattle.op_list.specs.declared.position.PixelPosition.{PixelPosition}
 use Rattle.op_list.specs.declared.types.PixType.{PixType}
 use Rattle.op_list.specs.declared.types.PixType.TheVariants.{U8}
-use Rattle.op_list.specs.declared.types.Stage.TheVariants.{Start, Typed}
+use Rattle.op_list.specs.declared.types.Stage.TheVariants.{Start}
 use Rattle.op_list.specs.declared.values.Values.TheVariants.{Numbers}
 use Rattle.op_list.specs.Types.{bits, bytes}
 use Rattle.op_list.specs.Values.{four, no_values}
@@ -14,7 +14,7 @@ use Rattle.op_list.specs.Whole.{field}
 use Rattle.op_list.specs.Pixel.{element_of, palette_colours}
 use Rattle.op_list.specs.Apply.{apply, cleared, swizzled}
 use Rattle.op_list.specs.Run.{run_from}
-use Rattle.op_list.specs.Typing.{stage_after, stage_from}
+use Rattle.op_list.specs.Typing.{stage_after}
 use Rattle.op_build.specs.Recipe.{only_if}
 use Rattle.op_build.proofs.ByteNumbers.{in_order}
 

@@ -11,7 +11,7 @@ use Rattle.pix_desc.proofs.Valid.{has_no_fault, laid_out}
 use Rattle.pix_desc.proofs.ElementCounts.{counts_by, counts_are, count_before, counts_some, sum-counts}
 use Rattle.pix_desc.proofs.ElementSlots.{HasElements}
 use Rattle.pix_desc.proofs.WordShape.{HasWord, some_before, sum-widths}
-use Rattle.pix_desc.proofs.PixelSlots.{IsSize, element_size, word_size, is_size, first_size, has_layout}
+use Rattle.pix_desc.proofs.PixelSlots.{IsSize, word_size, is_size, first_size, has_layout}
 use Rattle.op_list.specs.declared.types.PixType.{PixType}
 use Rattle.op_list.specs.declared.types.PixType.TheVariants.{U8, U16, U32}
 use Rattle.op_list.specs.declared.types.Stage.TheVariants.{Typed}
@@ -55,7 +55,7 @@ type_is desc size elem sizes bytes_are is whole bits_are same wide = record {
       ∙ wide (not-true (is_same elem U8) (and_parts desc.be (not (is_same elem U8)) (sym (swapped_of desc elem is) ∙ swapped)).1);
 }
 
-pub has_type_of : (desc : Desc) → IsSize (element_bytes desc) → HasType desc
+has_type_of : (desc : Desc) → IsSize (element_bytes desc) → HasType desc
 has_type_of desc sizes =
     ⊎_elim
     (λ one. type_is desc 1 U8 sizes one (type_of desc 1 one) refl refl refl (λ same. absurd cc))
@@ -64,12 +64,6 @@ has_type_of desc sizes =
     (λ four. type_is desc 4 U32 sizes four (type_of desc 4 four) refl refl refl (λ _. refl))
     more)
     sizes
-
-pub element_type_is : (desc : Desc) → HasElements desc (first_size desc) → HasType desc
-element_type_is desc is = has_type_of desc (element_size desc is)
-
-pub word_type_is : (desc : Desc) → HasWord desc → HasType desc
-word_type_is desc is = has_type_of desc (word_size desc is)
 
 pub has_type : (desc : Desc) → IsValid desc → HasType desc
 has_type desc valid = has_type_of desc (is_size desc valid)
@@ -112,5 +106,5 @@ widths_are_good desc is =
 -- the fields of a word come to its bits
 pub field_widths_are_good : (desc : Desc) → HasWord desc → are_counts (bits (element_type desc)) (field_widths desc) ≡ true
 field_widths_are_good desc is =
-    let e : bits (element_type desc) ≡ 8 * (component_of desc 0).step = (word_type_is desc is).bits ∙ ap (λ s. 8 * s) is.bytes in
+    let e : bits (element_type desc) ≡ 8 * (component_of desc 0).step = (has_type_of desc (word_size desc is)).bits ∙ ap (λ s. 8 * s) is.bytes in
     ap (λ most. are_counts most (field_widths desc)) e ∙ widths_are_good desc is

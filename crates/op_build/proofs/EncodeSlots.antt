@@ -28,7 +28,7 @@ use Rattle.op_build.proofs.ByteNumbers.{in_order, number_at-below, in_order-belo
 use Rattle.op_build.proofs.ElementTypes.{has_type}
 use Rattle.op_build.proofs.EncodeRuns.{whole_code, placed_code}
 use Rattle.op_build.proofs.NumberBits as Number
-use Rattle.op_build.proofs.NumberBits.{content, held_below, slot_number}
+use Rattle.op_build.proofs.NumberBits.{content, content_below, slot_number}
 use Rattle.op_build.proofs.SlotBits.{SlotBits, AreSlotBits}
 
 -- where the last component is the alpha, it is channel 3
@@ -114,7 +114,7 @@ module _ (desc : Desc) (position : PixelPosition) (value : ℕ → ℕ → ℕ �
     slot_written p below within =
         let slot = get_or (slots desc) p None in
         let here = placed_is p below within in
-        let small_here = held_below desc gives.valid s is made position_again made_says.bytes value made_says gives.fit gives.column gives.row
+        let small_here = content_below desc gives.valid s is made position_again made_says.bytes value made_says gives.fit gives.column gives.row
         p slot within refl in
         slot_number desc gives.valid s is made position_again made_says.bytes value made_says gives.fit gives.column gives.row p within
         ∙ sym (mod-eq_of_lt small_here)

@@ -11,10 +11,10 @@ use Rattle.pix_desc.specs.Component.{component_of, bit_of}
 use Rattle.pix_desc.specs.Frame.{plane_step, row_start, frame_component, reads_pixel_bit, FitDepths, IsFrameOf}
 use Rattle.pix_desc.specs.Layouts.{IsValid}
 use Rattle.pix_desc.specs.Shape.{element_counts, slots, position_of}
-use Rattle.pix_desc.proofs.Bits.{bit_at_field, bit_at_shifted, bit_at_shifted_below, bit_at_shifted_above}
+use Rattle.pix_desc.proofs.Bits.{bit_at_field, bit_at_shifted, bit_at_shifted_cases}
 use Rattle.pix_desc.proofs.BitPositions.{byte_below, same_position}
 use Rattle.pix_desc.proofs.ElementCounts.{count_at, length-counts}
-use Rattle.pix_desc.proofs.FrameReads.{IsReadBy, read_by}
+use Rattle.pix_desc.proofs.FrameReads.{IsReadBy, read_by, frame_bit_by}
 use Rattle.pix_desc.proofs.PixelSlots.{has_slots}
 use Rattle.pix_desc.proofs.Valid.{laid_out}
 use Rattle.pix_desc.proofs.WordBits.{bit_in_order}
@@ -40,9 +40,6 @@ bit_in_order-below false size m inside = inside
 bit_in_order-apart : (be : Bool) (size a b : ℕ) → a < 8 * size → b < 8 * size → bit_in_order be size a ≡ bit_in_order be size b → a ≡ b
 bit_in_order-apart true size a b p q same = omega arith
 bit_in_order-apart false size a b p q same = same
-
-some_same : {j k : ℕ} → Some j ≡ Some k → j ≡ k
-some_same same = cc
 
 -- what a slot holds: its component's value, and 0 where it is spare
 abbrev pub content : (ℕ → ℕ) → Option ℕ → ℕ
@@ -110,130 +107,114 @@ module _ (desc : Desc) (valid : IsValid desc) (s : SlotBits) (is : AreSlotBits d
         whole_steps desc s.size (laid_out desc valid) is.bytes is.step p,
       )
 
-  -- only the components of an element read its bits
-  own : (e p r m j b : ℕ) → IsInPlane (element_counts desc) e p r → m < 8 * s.size → IsReadBy desc p (bit_there r m) j b
-      → (s.element (position_of desc j) ≡ e) × (lowest_bit desc s j + b ≡ m)
-  own e p r m j b there inside by =
-      let laid = laid_out desc valid in
-      let c = component_of desc j in
-      let t = lowest_bit desc s j + b in
-      let here = is.there j by.listed in
-      let within : t < 8 * s.size =
-      omega (arith, is.room (position_of desc j) ((has_slots desc valid).within j by.listed), is.inside j by.listed, by.inside) in
-      let at : bit_there (s.rest j) t ≡ bit_there r m =
-      sym (is.bits j b by.listed by.inside) ∙ same_position desc c b (bit_there r m) (laid.first j by.listed) by.at in
-      let both : s.rest j * (8 * s.size) + bit_in_order desc.be s.size t ≡ r * (8 * s.size) + bit_in_order desc.be s.size m = omega
-      (arith, at) in
-      let parts = same_parts (s.rest j) r (bit_in_order desc.be s.size t) (bit_in_order desc.be s.size m) (8 * s.size)
-      (bit_in_order-below desc.be s.size t within) (bit_in_order-below desc.be s.size m inside) both in (
-        here.index ∙ ap (λ q. sum (take c.plane (element_counts desc)) + q) parts.0
-            ∙ ap (λ q. sum (take q (element_counts desc)) + r) by.there ∙ sym there.index,
-        bit_in_order-apart desc.be s.size t m within inside parts.1,
-      )
-
-  -- so it is the component of the slot that reads a bit of the slot
+  -- it is the component of a slot that reads a bit of the slot
   own_slot : (p q r i j b : ℕ) → p < length (slots desc) → IsInPlane (element_counts desc) (s.element p) q r → i < s.width p
       → IsReadBy desc q (bit_there r (s.low p + i)) j b → (get_or (slots desc) p None ≡ Some j) × (s.up + b ≡ i)
   own_slot p q r i j b within there inside by =
+      let laid = laid_out desc valid in
       let positions = has_slots desc valid in
+      let c = component_of desc j in
       let at = position_of desc j in
-      let mine = own (s.element p) q r (s.low p + i) j b there (omega (arith, is.room p within)) by in
+      let m = s.low p + i in
+      let t = lowest_bit desc s j + b in
+      let here = is.there j by.listed in
+      let m_small : m < 8 * s.size = omega (arith, is.room p within) in
+      let t_small : t < 8 * s.size =
+      omega (arith, is.room at (positions.within j by.listed), is.inside j by.listed, by.inside) in
+      let bit : bit_there (s.rest j) t ≡ bit_there r m =
+      sym (is.bits j b by.listed by.inside) ∙ same_position desc c b (bit_there r m) (laid.first j by.listed) by.at in
+      let both : s.rest j * (8 * s.size) + bit_in_order desc.be s.size t ≡ r * (8 * s.size) + bit_in_order desc.be s.size m = omega
+      (arith, bit) in
+      let parts = same_parts (s.rest j) r (bit_in_order desc.be s.size t) (bit_in_order desc.be s.size m) (8 * s.size)
+      (bit_in_order-below desc.be s.size t t_small) (bit_in_order-below desc.be s.size m m_small) both in
+      let element : s.element at ≡ s.element p =
+      here.index ∙ ap (λ k. sum (take c.plane (element_counts desc)) + k) parts.0
+      ∙ ap (λ k. sum (take k (element_counts desc)) + r) by.there ∙ sym there.index in
+      let place : t ≡ m = bit_in_order-apart desc.be s.size t m t_small m_small parts.1 in
       let same : at ≡ p =
-      is.apart at p (s.low p + i) (positions.within j by.listed) within mine.0 (omega (arith, mine.1))
-      (omega (arith, mine.1, is.inside j by.listed, by.inside)) (omega arith) (omega arith) in
-      (ap (λ k. get_or (slots desc) k None) (sym same) ∙ positions.holds j by.listed, omega (arith, mine.1, ap s.low same))
+      is.apart at p m (positions.within j by.listed) within element (omega (arith, place))
+      (omega (arith, place, is.inside j by.listed, by.inside)) (omega arith) (omega arith) in
+      (ap (λ k. get_or (slots desc) k None) (sym same) ∙ positions.holds j by.listed, omega (arith, place, ap s.low same))
 
   -- ---- of the frame that is made of values
 
   module _ (value : ℕ → ℕ → ℕ → ℕ) (says : IsFrameOf desc position.width position.rows value frame)
       (fit : FitDepths desc position.width position.rows value) (column : position.x < position.width) (line : position.row < position.rows)
-    where
-      abbrev held : Option ℕ → ℕ
-      held slot = content (λ j. value j position.x position.row) slot
-
-      -- a bit of a slot that its component has not is 0
-      unread_bit : (p q r i : ℕ) → p < length (slots desc) → IsInPlane (element_counts desc) (s.element p) q r → i < s.width p
-          → ((j b : ℕ) → get_or (slots desc) p None ≡ Some j → b < (component_of desc j).depth → s.up + b ≡ i → ⊥)
-          → bit_at (number_of (s.element p)) (s.low p + i) ≡ 0
-      unread_bit p q r i within there inside none =
-          let m = s.low p + i in
-          let bound : m < 8 * s.size = omega (arith, is.room p within) in
-          bit_placed (s.element p) q r m there bound
-          ∙ ⊎_elim
-          (λ read.
-          let found = read_by desc q (bit_there r m) read in
-          let mine = own_slot p q r i found.0 found.1 within there inside found.2 in
-          absurd (none found.0 found.1 mine.0 found.2.inside mine.1))
-          (λ unread. says.spare q position.x position.row (bit_there r m) column line (bit_inside (s.element p) q r m there bound) unread)
-          (cases_Bool (reads_pixel_bit desc q (bit_there r m)))
+      where
+      abbrev here : ℕ → ℕ
+      here j = value j position.x position.row
 
       -- a bit of a component is that of its value
       component_bit : (j b : ℕ) → j < desc.count → b < (component_of desc j).depth
-          → bit_at (number_of (s.element (position_of desc j))) (lowest_bit desc s j + b) ≡ bit_at (value j position.x position.row) b
+          → bit_at (number_of (s.element (position_of desc j))) (lowest_bit desc s j + b) ≡ bit_at (here j) b
       component_bit j b listed inside =
           let n = number_of (s.element (position_of desc j)) in
           sym (bit_at_field n (lowest_bit desc s j) (component_of desc j).depth b inside)
           ∙ ap (λ v. bit_at v b) (component_number j listed ∙ says.reads j position.x position.row listed column line)
 
-      component_held : (j : ℕ) → j < desc.count → value j position.x position.row * 2 ^ s.up < 2 ^ s.width (position_of desc j)
-      component_held j listed =
-          shifted_below (value j position.x position.row) s.up (component_of desc j).depth (s.width (position_of desc j))
-          (fit j position.x position.row listed column line) (is.inside j listed)
-
-      component_slot : (p j i : ℕ) → p < length (slots desc) → j < desc.count → position_of desc j ≡ p → get_or (slots desc) p None ≡ Some j
-          → i < s.width p → bit_at (number_of (s.element p)) (s.low p + i) ≡ bit_at (value j position.x position.row * 2 ^ s.up) i
-      component_slot p j i within listed at holds inside =
-          let c = component_of desc j in
-          let v = value j position.x position.row in
-          let small = fit j position.x position.row listed column line in
-          let there : IsInPlane (element_counts desc) (s.element p) c.plane (s.rest j) =
-          subst (λ k. IsInPlane (element_counts desc) (s.element k) c.plane (s.rest j)) at (is.there j listed) in
-          let only = λ (k b : ℕ) (other : get_or (slots desc) p None ≡ Some k). let same : k ≡ j = some_same (sym other ∙ holds) in
-          ap (λ t. (component_of desc t).depth) same in
+      -- where a bit of a slot is 0, so is that of what it holds
+      empty_bit : (p i : ℕ) (slot : Option ℕ) → p < length (slots desc) → get_or (slots desc) p None ≡ slot
+          → bit_at (number_of (s.element p)) (s.low p + i) ≡ 0 → bit_at (content here slot * 2 ^ s.up) i ≡ 0
+      empty_bit p i None within holds empty = let none : 0 * 2 ^ s.up ≡ 0 = omega arith in ap (λ n. bit_at n i) none ∙ bit_at-zero i
+      empty_bit p i (Some j) within holds empty =
+          let at = (has_slots desc valid).only p j within holds in
+          let v = here j in
           ⊎_elim
-          (λ (under : i < s.up).
-          unread_bit p c.plane (s.rest j) i within there inside (λ k b other deep is_bit. omega arith)
-          ∙ sym (bit_at_shifted_below v s.up i under))
-          (λ (from : s.up ≤ i). ⊎_elim
-          (λ (mine : i < s.up + c.depth).
-          let b = i - s.up in
-          let bit : s.up + b ≡ i = omega arith in
-          let whole : s.low p + i ≡ lowest_bit desc s j + b = omega (arith, ap s.low at) in
-          ap (bit_at (number_of (s.element p))) whole
-          ∙ ap (λ k. bit_at (number_of (s.element k)) (lowest_bit desc s j + b)) (sym at)
-          ∙ component_bit j b listed (omega arith)
-          ∙ sym (bit_at_shifted v s.up b) ∙ ap (bit_at (v * 2 ^ s.up)) bit)
-          (λ (past : s.up + c.depth ≤ i).
-          unread_bit p c.plane (s.rest j) i within there inside
-          (λ k b other deep is_bit. omega (arith, only k b other))
-          ∙ sym (bit_at_shifted_above v s.up c.depth i small past))
-          (cases_lt i (s.up + c.depth)))
-          (cases_lt i s.up)
+          (λ zero. zero)
+          (λ one.
+          let same : s.low p + s.up + one.0 ≡ s.low p + i = omega (arith, one.2) in
+          ap (bit_at (v * 2 ^ s.up)) (sym one.2)
+          ∙ bit_at_shifted v s.up one.0
+          ∙ sym (component_bit j one.0 at.0 one.1)
+          ∙ ap (λ k. bit_at (number_of (s.element k)) (s.low k + s.up + one.0)) at.1
+          ∙ ap (bit_at (number_of (s.element p))) same
+          ∙ empty)
+          (bit_at_shifted_cases v s.up (component_of desc j).depth i (fit j position.x position.row at.0 column line))
 
-      slot_bit : (p i : ℕ) (slot : Option ℕ) → p < length (slots desc) → get_or (slots desc) p None ≡ slot → i < s.width p
-          → bit_at (number_of (s.element p)) (s.low p + i) ≡ bit_at (held slot * 2 ^ s.up) i
-      slot_bit p i None within holds inside =
+      -- a bit of a slot is that of what it holds: it is read by the slot's component, or 0
+      slot_bit : (p i : ℕ) → p < length (slots desc) → i < s.width p
+          → bit_at (number_of (s.element p)) (s.low p + i) ≡ bit_at (content here (get_or (slots desc) p None) * 2 ^ s.up) i
+      slot_bit p i within inside =
           let found = find_in_plane (element_counts desc) (s.element p) (is.within p within) in
-          let none : 0 * 2 ^ s.up ≡ 0 = omega arith in
-          unread_bit p found.0 found.1 i within found.2 inside (λ j b other deep is_bit. let both : None ≡ Some j = sym holds ∙ other in absurd cc)
-          ∙ sym (bit_at-zero i) ∙ ap (λ n. bit_at n i) (sym none)
-      slot_bit p i (Some j) within holds inside =
-          let at = (has_slots desc valid).only p j within holds in
-          component_slot p j i within at.0 at.1 holds inside
+          let q = found.0 in
+          let m = s.low p + i in
+          let k = bit_there found.1 m in
+          let bound : m < 8 * s.size = omega (arith, is.room p within) in
+          let placed = bit_placed (s.element p) q found.1 m found.2 bound in
+          ⊎_elim
+          (λ read.
+          let by = read_by desc q k read in
+          let mine = own_slot p q found.1 i by.0 by.1 within found.2 inside by.2 in
+          placed
+          ∙ sym (frame_bit_by desc position.width position.rows frame q position.x position.row k by.0 by.1 (laid_out desc valid) bytes by.2)
+          ∙ ap (λ v. bit_at v by.1) (says.reads by.0 position.x position.row by.2.listed column line)
+          ∙ sym (bit_at_shifted (here by.0) s.up by.1)
+          ∙ ap (bit_at (here by.0 * 2 ^ s.up)) mine.1
+          ∙ ap (λ slot. bit_at (content here slot * 2 ^ s.up) i) (sym mine.0))
+          (λ unread.
+          let inside_pixel = bit_inside (s.element p) q found.1 m found.2 bound in
+          let empty = placed ∙ says.spare q position.x position.row k column line inside_pixel unread in
+          empty ∙ sym (empty_bit p i (get_or (slots desc) p None) within refl empty))
+          (cases_Bool (reads_pixel_bit desc q k))
 
-      pub held_below : (p : ℕ) (slot : Option ℕ) → p < length (slots desc) → get_or (slots desc) p None ≡ slot
-          → held slot * 2 ^ s.up < 2 ^ s.width p
-      held_below p None within holds = omega (arith, pow_pos (s.width p))
-      held_below p (Some j) within holds =
+      pub content_below : (p : ℕ) (slot : Option ℕ) → p < length (slots desc) → get_or (slots desc) p None ≡ slot
+          → content here slot * 2 ^ s.up < 2 ^ s.width p
+      content_below p None within holds = omega (arith, pow_pos (s.width p))
+      content_below p (Some j) within holds =
           let at = (has_slots desc valid).only p j within holds in
-          omega (arith, component_held j at.0, ap (λ k. 2 ^ s.width k) at.1)
+          let small = fit j position.x position.row at.0 column line in
+          omega (
+            arith,
+            shifted_below (here j) s.up (component_of desc j).depth (s.width (position_of desc j)) small (is.inside j at.0),
+            ap (λ k. 2 ^ s.width k) at.1,
+          )
 
       -- a slot holds its content, in either layout
       pub slot_number : (p : ℕ) → p < length (slots desc)
-          → number_of (s.element p) / 2 ^ s.low p % 2 ^ s.width p ≡ held (get_or (slots desc) p None) * 2 ^ s.up
+          → number_of (s.element p) / 2 ^ s.low p % 2 ^ s.width p ≡ content here (get_or (slots desc) p None) * 2 ^ s.up
       slot_number p within =
           let slot = get_or (slots desc) p None in
           let n = number_of (s.element p) in
-          same_from_bits_below (s.width p) (n / 2 ^ s.low p % 2 ^ s.width p) (held slot * 2 ^ s.up)
-          (mod-lt (n / 2 ^ s.low p) (pow_pos (s.width p))) (held_below p slot within refl)
-          (λ i inside. bit_at_field n (s.low p) (s.width p) i inside ∙ slot_bit p i slot within refl inside)
+          same_from_bits_below (s.width p) (n / 2 ^ s.low p % 2 ^ s.width p) (content here slot * 2 ^ s.up)
+          (mod-lt (n / 2 ^ s.low p) (pow_pos (s.width p))) (content_below p slot within refl)
+          (λ i inside. bit_at_field n (s.low p) (s.width p) i inside ∙ slot_bit p i within inside)

@@ -21,7 +21,7 @@ use Rattle.op_list.specs.declared.types.PixType.{PixType}
 use Rattle.op_list.specs.declared.types.PixType.TheVariants.{U8, U16, U32, Rat}
 use Rattle.op_list.specs.declared.types.Stage.{Stage}
 use Rattle.op_list.specs.declared.types.Stage.TheVariants.{Start, Typed, Ended}
-use Rattle.op_list.specs.Types.{bits, is_whole_type, is_wide, is_rational, is_same}
+use Rattle.op_list.specs.Types.{bits, is_whole_type, is_rational, is_same}
 use Rattle.op_list.specs.Typing.{may_follow, are_good, are_counts, all_fit, entry_fits, stage_after, IsOpList}
 use Rattle.op_list.proofs.Typed.{IsTyped, no_operations, one_more, one_more_if, both_parts}
 use Rattle.pix_desc.specs.Shape.{element_counts, field_widths, slots}
