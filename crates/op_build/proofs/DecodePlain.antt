@@ -1,15 +1,17 @@
 -- Decoding gives the codes of the channels of a format without a palette.
 use Rattle.std.proofs.Common.{◌≡◌, ℕ, ◌+◌, ◌-◌, ◌*◌, ◌/◌, ◌%◌, ◌^◌, ◌<◌, ◌≤◌, ⊎_elim, true, false, not, ◌&&◌, nat_eq, List, [], ◌∷◌}
-use Rattle.std.proofs.Common.{All, get_or, sym, ap, ◌∙◌, arith}
+use Rattle.std.proofs.Common.{if◌then◌else◌, All, get_or, Some, None, sym, ap, ◌∙◌, arith}
 use Rattle.std.specs.Prelude.{sum}
-use Rattle.std.proofs.lemmas.Bool.{cond-true, cond-false}
+use Rattle.std.proofs.lemmas.Bool.{cases_Bool, cond-true, cond-false}
 use Rattle.pix_desc.specs.declared.desc.Desc.{Desc}
 use Rattle.pix_desc.specs.Component.{component_of}
 use Rattle.pix_desc.specs.Frame.{frame_component}
 use Rattle.pix_desc.specs.Layouts.{IsValid, is_elements}
 use Rattle.pix_desc.proofs.BitPositions.{byte_below}
 use Rattle.pix_desc.proofs.Valid.{laid_out}
-use Rattle.pix_meaning.specs.Pairs.{component_at}
+use Rattle.frac_math.specs.Fraction.{nat}
+use Rattle.pix_meaning.specs.Pairs.{has_channel, component_at}
+use Rattle.pix_meaning.specs.Channels.{missing_code}
 use Rattle.op_list.specs.declared.op.Op.{Op}
 use Rattle.op_list.specs.declared.op.Op.TheVariants.{Read, Unpack, Clear, LeftShift, RightShift}
 use Rattle.op_list.specs.declared.position.PixelPosition.{PixelPosition}
@@ -20,7 +22,8 @@ use Rattle.op_list.specs.Types.{bits, bytes}
 use Rattle.op_list.specs.Values.{four, no_values}
 use Rattle.op_list.specs.Whole.{field, bits_below}
 use Rattle.op_list.specs.Pixel.{number_at, element_in, pixel_count, pixel_number}
-use Rattle.op_list.specs.Apply.{cleared, swizzled}
+use Rattle.op_list.specs.Apply.{cleared_number, cleared, swizzled}
+use Rattle.op_list.proofs.Four.{get_or-four, same_four}
 use Rattle.op_list.specs.Run.{run_from}
 use Rattle.op_list.proofs.Stored.{element_of-is}
 use Rattle.pix_desc.specs.Shape.{element_counts, field_widths, position_of}
@@ -28,7 +31,6 @@ use Rattle.op_build.specs.ElementType.{element_type, is_swapped}
 use Rattle.op_build.specs.Recipe.{decode, split, channel_slots, missing_codes}
 use Rattle.op_build.proofs.ByteNumbers.{in_order, number_at-below, swap_needed}
 use Rattle.pix_meaning.proofs.ChannelCodes.{code_of-there, code_of-missing, plain_component, channel_listed}
-use Rattle.op_build.proofs.Codes.{in_channels}
 use Rattle.pix_meaning.specs.Channels.{code_of}
 use Rattle.op_build.proofs.DecodeRuns.{decode_by, ordered_element, run_shifts, run_fields}
 use Rattle.pix_desc.proofs.ElementSlots.{HasElements}
@@ -119,16 +121,26 @@ module _ (desc : Desc) (frame : List ℕ) (position : PixelPosition) (valid : Is
         → cleared (missing_codes desc) (swizzled (channel_slots desc) (Numbers (four values))) ≡ Numbers (four codes)
     unfolding component_here
     decoded values are =
-        let positions = has_slots desc valid in
-        in_channels desc values codes
-        (λ c below there.
+        ap Numbers (same_four
+        (λ c. cleared_number (if has_channel desc c then None else Some (nat (missing_code desc c)))
+        (get_or (four values) (if has_channel desc c then position_of desc (component_at desc c) else c) 0))
+        codes
+        (λ c below. ⊎_elim
+        (λ (there : has_channel desc c ≡ true).
         let j = component_at desc c in
-        let listed : j < desc.count = channel_listed desc c valid none below there in (
-          omega (arith, positions.within j listed, positions.few),
-          are j listed ∙ sym (plain_component desc position.width position.rows frame j position.x position.row none)
-              ∙ sym (code_of-there desc position.width position.rows frame position.x position.row c there),
-        ))
-        (λ c missing. sym (code_of-missing desc position.width position.rows frame position.x position.row c missing))
+        let positions = has_slots desc valid in
+        let listed : j < desc.count = channel_listed desc c valid none below there in
+        ap (λ b. cleared_number (if b then None else Some (nat (missing_code desc c)))
+        (get_or (four values) (if b then position_of desc j else c) 0)) there
+        ∙ get_or-four values (position_of desc j) 0 (omega (arith, positions.within j listed, positions.few))
+        ∙ are j listed
+        ∙ sym (plain_component desc position.width position.rows frame j position.x position.row none)
+        ∙ sym (code_of-there desc position.width position.rows frame position.x position.row c there))
+        (λ (missing : has_channel desc c ≡ false).
+        ap (λ b. cleared_number (if b then None else Some (nat (missing_code desc c)))
+        (get_or (four values) (if b then position_of desc (component_at desc c) else c) 0)) missing
+        ∙ sym (code_of-missing desc position.width position.rows frame position.x position.row c missing))
+        (cases_Bool (has_channel desc c))))
 
 pub decode_is : (desc : Desc) (splits : List Op) → desc.palette ≡ false → split desc ≡ splits
     → decode desc ≡ decode_by (element_type desc) (element_counts desc) (is_swapped desc) splits (channel_slots desc) (missing_codes desc)

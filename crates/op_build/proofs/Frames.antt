@@ -12,7 +12,11 @@ use Rattle.pix_desc.proofs.FrameExists.{frame_length_is}
 use Rattle.pix_desc.proofs.Valid.{has_no_fault, laid_out}
 use Rattle.pix_meaning.specs.declared.pair.Pair.{Pair}
 use Rattle.op_list.specs.declared.op.Op.{Op}
-use Rattle.op_list.specs.declared.op.Op.TheVariants.{Write, SwapBytes, Pack, Clear, LeftShift, Swizzle, Convert}
+use Rattle.op_list.specs.declared.types.PixType.{PixType}
+use Rattle.op_list.specs.declared.types.PixType.TheVariants.{U8}
+use Rattle.op_list.specs.Pixel as Pixel
+use Rattle.op_list.specs.Types.{bytes}
+use Rattle.op_list.specs.declared.op.Op.TheVariants.{Read, Write, SwapBytes, Pack, Clear, LeftShift, Swizzle, Convert}
 use Rattle.op_list.specs.Run.{read_length}
 use Rattle.op_list.specs.Typing.{are_counts, are_in_front, ends_with_write}
 use Rattle.op_build.specs.Frames.{ReadsFrames, WritesFrames, FillsFrames}
@@ -26,7 +30,6 @@ use Rattle.op_build.proofs.ElementStarts.{plane_start_is}
 use Rattle.pix_desc.proofs.PlaneSteps.{component_in}
 use Rattle.op_list.specs.Run.{write_length}
 use Rattle.op_list.proofs.Wholes.{ends_with_write-append, write_length-append}
-use Rattle.op_build.proofs.ReadLengths.{elements_length, palette_length, written_length}
 use Rattle.op_build.proofs.ElementTypes.{has_type, element_counts_are_good}
 use Rattle.op_build.proofs.SlotBits.{has_slot_bits}
 
@@ -78,6 +81,25 @@ fills_frames desc valid none = record {
 }
 
 -- ---- the frames that a list reads
+
+-- a list of three parts, of which the first begins with a Read of elements
+elements_length : {rest : List Op} (elem : PixType) (counts : List ℕ) (first second third : List Op) (width rows : ℕ)
+    → first ≡ Read elem counts false ∷ rest
+    → read_length (first ++ second ++ third) width rows ≡ width * rows * sum counts * bytes elem
+unfolding Pixel.frame_length
+elements_length elem counts first second third width rows is = ap (λ ops. read_length (ops ++ second ++ third) width rows) is ∙ omega arith
+
+-- and with that of a palette format
+palette_length : {rest : List Op} (first second third : List Op) (width rows : ℕ) → first ≡ Read U8 (1 ∷ 0 ∷ 0 ∷ 0 ∷ []) true ∷ rest
+    → read_length (first ++ second ++ third) width rows ≡ width * rows + 1024
+unfolding Pixel.frame_length
+palette_length first second third width rows is = ap (λ ops. read_length (ops ++ second ++ third) width rows) is ∙ omega arith
+
+-- the bytes of the frame that a Write states
+written_length : (elem : PixType) (counts : List ℕ) (width rows : ℕ)
+    → write_length (Write elem counts ∷ []) width rows ≡ width * rows * sum counts * bytes elem
+unfolding Pixel.frame_length
+written_length elem counts width rows = refl
 
 reads_elements : (pair : Pair) (width rows : ℕ) → IsValid pair.from.desc → pair.from.desc.palette ≡ false
     → read_length (recipe pair) width rows ≡ frame_length pair.from.desc width rows

@@ -1,7 +1,6 @@
 pub mod ByteNumbers
 pub mod ElementStarts
 pub mod FieldValues
-pub mod Codes
 pub mod DecodeRuns
 pub mod DecodePlain
 pub mod DecodePalette
@@ -23,9 +22,7 @@ pub mod Means
 pub mod BoundPairs
 pub mod BoundRuns
 pub mod BoundFrames
-pub mod Fronts
 pub mod StepLists
-pub mod ReadLengths
 pub mod Frames
 pub mod ElementTypes
 pub mod ClassTests

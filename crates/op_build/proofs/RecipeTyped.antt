@@ -23,7 +23,7 @@ use Rattle.op_list.specs.declared.types.Stage.{Stage}
 use Rattle.op_list.specs.declared.types.Stage.TheVariants.{Start, Typed, Ended}
 use Rattle.op_list.specs.Types.{bits, is_whole_type, is_rational, is_same}
 use Rattle.op_list.specs.Typing.{may_follow, are_good, are_counts, all_fit, entry_fits, stage_after, IsOpList}
-use Rattle.op_list.proofs.Typed.{IsTyped, no_operations, one_more, one_more_if, both_parts}
+use Rattle.op_list.proofs.Typed.{IsTyped, front_is_list, no_operations, one_more, one_more_if, both_parts}
 use Rattle.pix_desc.specs.Shape.{element_counts, field_widths, slots}
 use Rattle.op_build.specs.ElementType.{element_type, is_swapped}
 use Rattle.op_build.specs.Codes.{decoded_type}
@@ -202,3 +202,16 @@ recipe_is_list pair valid = let is = recipe_typed pair valid in record { typed =
 
 pub recipe_is_short : (pair : Pair) → IsValidPair pair → length (recipe pair) ≤ 20
 recipe_is_short pair valid = (recipe_typed pair valid).size
+
+-- The parts of the recipe, one behind the other, are lists.
+pub record AreLists (pair : Pair) : Type 0 where
+  pub first : IsOpList (decode pair.from.desc)
+  pub second : IsOpList (decode pair.from.desc ++ convert pair)
+  pub whole : IsOpList (decode pair.from.desc ++ convert pair ++ encode pair.to.desc)
+
+pub are_lists : (pair : Pair) → IsValidPair pair → AreLists pair
+unfolding recipe
+are_lists pair valid =
+    let whole : IsOpList (decode pair.from.desc ++ convert pair ++ encode pair.to.desc) = recipe_is_list pair valid in
+    let second = front_is_list (decode pair.from.desc ++ convert pair) (encode pair.to.desc) whole in
+    record { first = front_is_list (decode pair.from.desc) (convert pair) second; second = second; whole = whole }
