@@ -1,8 +1,7 @@
 -- At each pixel of a frame the checked run of the list of a pair whose sides are of the classes is the exact one.
-use Rattle.std.proofs.Common.{◌≡◌, ⊎_elim, ℕ, ◌^◌, ◌<◌, true, false, List, sym, ap, subst}
+use Rattle.std.proofs.Common.{◌≡◌, ℕ, ◌^◌, ◌<◌, true, false, if◌then◌else◌, List, ap}
 use Rattle.std.specs.Prelude.{Some, All}
 use Rattle.std.specs.Option.{option_map}
-use Rattle.std.proofs.lemmas.Bool.{cases_Bool, cond-true, cond-false}
 use Rattle.pix_desc.specs.declared.desc.Desc.{Desc}
 use Rattle.pix_desc.specs.Layouts.{IsValid}
 use Rattle.pix_meaning.specs.declared.pair.Pair.{Pair}
@@ -12,30 +11,26 @@ use Rattle.op_list.specs.declared.position.PixelPosition.{PixelPosition}
 use Rattle.op_list.specs.Values.{four, number}
 use Rattle.op_list.specs.Run.{run, checked_run}
 use Rattle.op_build.specs.Meaning.{CheckedRunSucceeds}
-use Rattle.pix_meaning.specs.Channels.{channel_depth}
+use Rattle.pix_meaning.specs.Values.{source_component}
+use Rattle.pix_meaning.specs.Channels.{channel_depth, missing_code}
 use Rattle.op_build.specs.Recipe.{recipe}
 use Rattle.pix_meaning.specs.Channels.{code_of}
 use Rattle.op_build.specs.SideClasses.{side_class, side_classes, IsOneOf}
-use Rattle.pix_meaning.proofs.ChannelCodes.{code_of-there, code_of-missing, missing_code-below}
+use Rattle.pix_meaning.proofs.ChannelCodes.{missing_code-below}
 use Rattle.op_build.proofs.Decode.{decode_gives}
 use Rattle.op_build.proofs.BoundRuns.{recipe_is_there}
 
 -- the code of a channel fits its depth
 pub code_below : (desc : Desc) (width rows : ℕ) (frame : List ℕ) (x row c : ℕ) → IsValid desc → All (λ byte. byte < 256) frame
     → code_of desc width rows frame x row c < 2 ^ channel_depth desc c
+unfolding code_of
 code_below desc width rows frame x row c valid bytes =
-    ⊎_elim
-    (λ (there : has_channel desc c ≡ true).
-    subst (λ (d : ℕ). code_of desc width rows frame x row c < 2 ^ d)
-    (sym (cond-true (has_channel desc c) (depth_of desc (component_at desc c)) (depth_of desc 0) there))
-    (subst (λ (n : ℕ). n < 2 ^ depth_of desc (component_at desc c)) (sym (code_of-there desc width rows frame x row c there))
-    (source_below desc width rows frame (component_at desc c) x row bytes)))
-    (λ (missing : has_channel desc c ≡ false).
-    subst (λ (d : ℕ). code_of desc width rows frame x row c < 2 ^ d)
-    (sym (cond-false (has_channel desc c) (depth_of desc (component_at desc c)) (depth_of desc 0) missing))
-    (subst (λ (n : ℕ). n < 2 ^ depth_of desc 0) (sym (code_of-missing desc width rows frame x row c missing))
-    (missing_code-below desc c valid)))
-    (cases_Bool (has_channel desc c))
+    elim (has_channel desc c) as
+    (λ b. (if b then source_component desc width rows frame (component_at desc c) x row else missing_code desc c)
+    < 2 ^ (if b then depth_of desc (component_at desc c) else depth_of desc 0)) [
+      | true ↦ source_below desc width rows frame (component_at desc c) x row bytes
+      | false ↦ missing_code-below desc c valid
+    ]
 
 pub checked_run_is_there : (pair : Pair) (frame : List ℕ) (width rows x row y : ℕ) → IsValidPair pair
     → IsOneOf (side_class pair.from) side_classes → IsOneOf (side_class pair.to) side_classes → All (λ byte. byte < 256) frame
