@@ -24,12 +24,12 @@ use Rattle.op_list.proofs.Four.{get_or-four}
 use Rattle.op_list.proofs.Stored.{element_of-is}
 use Rattle.op_build.specs.ElementType.{element_type, is_swapped}
 use Rattle.op_build.specs.Recipe.{source_of, slot_channels, spare_zero, spare_zeros}
-use Rattle.op_build.proofs.ByteNumbers.{in_order, number_at-below, in_order-below, in_order-twice, swap_needed}
-use Rattle.op_build.proofs.ElementTypes.{has_type}
-use Rattle.op_build.proofs.EncodeRuns.{whole_code, placed_code}
-use Rattle.op_build.proofs.NumberBits as Number
-use Rattle.op_build.proofs.NumberBits.{content, content_below, slot_number}
-use Rattle.op_build.proofs.SlotBits.{SlotBits, AreSlotBits}
+use Rattle.op_build.proofs.shape.ByteNumbers.{in_order, number_at-below, in_order-below, in_order-twice, swap_needed}
+use Rattle.op_build.proofs.shape.ElementTypes.{has_type}
+use Rattle.op_build.proofs.encode.Runs.{whole_code, placed_code}
+use Rattle.op_build.proofs.shape.NumberBits as Number
+use Rattle.op_build.proofs.shape.NumberBits.{content, content_below, slot_number}
+use Rattle.op_build.proofs.shape.SlotBits.{SlotBits, AreSlotBits}
 
 -- where the last component is the alpha, it is channel 3
 pub channel_below : (desc : Desc) (j : ℕ) → j < 4 → channel_of desc j < 4
@@ -114,8 +114,8 @@ module _ (desc : Desc) (position : PixelPosition) (value : ℕ → ℕ → ℕ �
     slot_written p below within =
         let slot = get_or (slots desc) p None in
         let here = placed_is p below within in
-        let small_here = content_below desc gives.valid s is made position_again made_says.bytes value made_says gives.fit gives.column gives.row
-        p slot within refl in
+        let small_here = content_below desc gives.valid s is made position_again made_says.bytes value made_says gives.fit gives.column
+        gives.row p slot within refl in
         slot_number desc gives.valid s is made position_again made_says.bytes value made_says gives.fit gives.column gives.row p within
         ∙ sym (mod-eq_of_lt small_here)
         ∙ ap (λ v. v * 2 ^ s.up % 2 ^ s.width p) (sym here)

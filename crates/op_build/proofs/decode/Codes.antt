@@ -11,8 +11,8 @@ use Rattle.op_list.specs.Run.{run_from}
 use Rattle.op_build.specs.Recipe.{decode}
 use Rattle.pix_meaning.specs.Channels.{code_of}
 use Rattle.op_build.specs.Codes.{GivesCodes}
-use Rattle.op_build.proofs.DecodePlain.{decode_plain}
-use Rattle.op_build.proofs.DecodePalette.{decode_palette}
+use Rattle.op_build.proofs.decode.Plain.{decode_plain}
+use Rattle.op_build.proofs.decode.Palette.{decode_palette}
 
 pub decode_gives : (desc : Desc) (frame : List ℕ) (position : PixelPosition) → IsValid desc → All (λ byte. byte < 256) frame
     → run_from frame position Start (decode desc) no_values

@@ -29,16 +29,16 @@ use Rattle.op_list.proofs.Stored.{element_of-is}
 use Rattle.pix_desc.specs.Shape.{element_counts, field_widths, position_of}
 use Rattle.op_build.specs.ElementType.{element_type, is_swapped}
 use Rattle.op_build.specs.Recipe.{decode, split, channel_slots, missing_codes}
-use Rattle.op_build.proofs.ByteNumbers.{in_order, number_at-below, swap_needed}
+use Rattle.op_build.proofs.shape.ByteNumbers.{in_order, number_at-below, swap_needed}
 use Rattle.pix_meaning.proofs.ChannelCodes.{code_of-there, code_of-missing, plain_component, channel_listed}
 use Rattle.pix_meaning.specs.Channels.{code_of}
-use Rattle.op_build.proofs.DecodeRuns.{decode_by, ordered_element, run_shifts, run_fields}
+use Rattle.op_build.proofs.decode.Runs.{decode_by, ordered_element, run_shifts, run_fields}
 use Rattle.pix_desc.proofs.ElementSlots.{HasElements}
-use Rattle.op_build.proofs.FieldValues.{shifted_field}
-use Rattle.op_build.proofs.NumberBits.{number_of, component_number}
-use Rattle.op_build.proofs.SlotBits.{SlotBits, AreSlotBits, lowest_bit, element_bits, are_element_bits, field_bits, are_field_bits}
+use Rattle.op_build.proofs.shape.FieldValues.{shifted_field}
+use Rattle.op_build.proofs.shape.NumberBits.{number_of, component_number}
+use Rattle.op_build.proofs.shape.SlotBits.{SlotBits, AreSlotBits, lowest_bit, element_bits, are_element_bits, field_bits, are_field_bits}
 use Rattle.pix_desc.proofs.PixelSlots.{first_size, has_layout, has_slots, component_field}
-use Rattle.op_build.proofs.ElementTypes.{has_type}
+use Rattle.op_build.proofs.shape.ElementTypes.{has_type}
 use Rattle.pix_desc.proofs.WordBits.{number_end}
 use Rattle.pix_desc.proofs.WordShape.{HasWord}
 
@@ -80,8 +80,8 @@ module _ (desc : Desc) (frame : List ℕ) (position : PixelPosition) (valid : Is
   module _ (is : HasElements desc (first_size desc)) where
     abbrev shifted : ℕ → ℕ
     shifted i =
-        ordered i * 2 ^ (bits (element_type desc) - (component_of desc 0).shift - (component_of desc 0).depth) % 2 ^ bits (element_type desc)
-        / 2 ^ (bits (element_type desc) - (component_of desc 0).depth)
+        ordered i * 2 ^ (bits (element_type desc) - (component_of desc 0).shift - (component_of desc 0).depth)
+        % 2 ^ bits (element_type desc) / 2 ^ (bits (element_type desc) - (component_of desc 0).depth)
 
     shifted_is : (j : ℕ) → j < desc.count → shifted (position_of desc j) ≡ component_here j
     shifted_is j listed =

@@ -7,7 +7,7 @@ use Rattle.colour_matrix.specs.Levels.{levels, scaled_to}
 use Rattle.colour_matrix.specs.Colour.{to_rgb_rows, from_rgb_rows}
 use Rattle.op_range.specs.FractionBounds.{sum_bound, product_bound, row_bound, bounds_after, bounds_from}
 use Rattle.op_build.specs.SideClasses.{side_classes}
-use Rattle.op_build.proofs.ClassTests.{source_fits, target_fits}
+use Rattle.op_build.proofs.bounds.ClassTests.{source_fits, target_fits}
 
 pub classes_fit : list_all (source_fits side_classes) side_classes ≡ true
 unfolding gcd over ratio ◌+ℚ◌ ◌*ℚ◌ neg_ℚ inverse equal_ℚ levels scaled_to to_rgb_rows from_rgb_rows sum_bound product_bound row_bound

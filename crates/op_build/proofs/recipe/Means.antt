@@ -15,10 +15,10 @@ use Rattle.op_list.proofs.Runs.{run_from-three}
 use Rattle.op_list.proofs.Typed.{stage_from-append}
 use Rattle.op_build.specs.Recipe.{decode, convert, encode, recipe}
 use Rattle.op_build.specs.Meaning.{elements_at, MeansItsTarget}
-use Rattle.op_build.proofs.Decode.{decode_gives}
-use Rattle.op_build.proofs.Convert.{coded, convert_run, floors_are}
-use Rattle.op_build.proofs.Encode.{encode_gives}
-use Rattle.op_build.proofs.RecipeTyped.{front_typed}
+use Rattle.op_build.proofs.decode.Codes.{decode_gives}
+use Rattle.op_build.proofs.convert.Coded.{coded, convert_run, floors_are}
+use Rattle.op_build.proofs.encode.Elements.{encode_gives}
+use Rattle.op_build.proofs.recipe.Typed.{front_typed}
 
 recipe_run : (pair : Pair) (frame : List ℕ) (position : PixelPosition) (first : ℕ) → IsValidPair pair → pair.to.desc.palette ≡ false
     → All (λ byte. byte < 256) frame → position.y ≡ first + position.row

@@ -30,9 +30,9 @@ use Rattle.pix_meaning.specs.Channels.{channel_depth, channel_levels}
 use Rattle.op_build.specs.Recipe.{only_if, over_three, from_codes, to_codes, limits, convert}
 use Rattle.pix_meaning.specs.Channels.{code_of}
 use Rattle.pix_meaning.proofs.ChannelLevels.{levels_there, code_means}
-use Rattle.op_build.proofs.ConvertSteps.{same_fractions, from_codes-applied, to_codes-applied, to_rgb-run}
-use Rattle.op_build.proofs.ConvertSteps.{from_rgb-run}
-use Rattle.op_build.proofs.ConvertClamp.{floor_limited}
+use Rattle.op_build.proofs.convert.Steps.{same_fractions, from_codes-applied, to_codes-applied, to_rgb-run}
+use Rattle.op_build.proofs.convert.Steps.{from_rgb-run}
+use Rattle.op_build.proofs.convert.Clamp.{floor_limited}
 
 -- ---- the values at the end
 

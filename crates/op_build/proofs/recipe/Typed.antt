@@ -29,12 +29,12 @@ use Rattle.op_build.specs.ElementType.{element_type, is_swapped}
 use Rattle.op_build.specs.Codes.{decoded_type}
 use Rattle.op_build.specs.Recipe.{decode, convert, encode, recipe, only_if, from_codes, to_codes, slot_channels, source_of, spare_zero}
 use Rattle.op_build.specs.Recipe.{spare_zeros}
-use Rattle.op_build.proofs.DecodeTyped.{decode_part}
+use Rattle.op_build.proofs.decode.Typed.{decode_part}
 use Rattle.pix_desc.proofs.ElementSlots.{HasElements}
-use Rattle.op_build.proofs.EncodeSlots.{channel_below}
+use Rattle.op_build.proofs.encode.Slots.{channel_below}
 use Rattle.op_list.proofs.Four.{four_hold}
 use Rattle.pix_desc.proofs.PixelSlots.{first_size, has_layout, has_slots}
-use Rattle.op_build.proofs.ElementTypes.{has_type, element_counts_are_good, field_widths_are_good}
+use Rattle.op_build.proofs.shape.ElementTypes.{has_type, element_counts_are_good, field_widths_are_good}
 use Rattle.pix_desc.proofs.WordBits.{number_end}
 use Rattle.pix_desc.proofs.WordShape.{HasWord}
 

@@ -17,8 +17,8 @@ use Rattle.op_build.specs.Recipe.{recipe}
 use Rattle.pix_meaning.specs.Channels.{code_of}
 use Rattle.op_build.specs.SideClasses.{side_class, side_classes, IsOneOf}
 use Rattle.pix_meaning.proofs.ChannelCodes.{missing_code-below}
-use Rattle.op_build.proofs.Decode.{decode_gives}
-use Rattle.op_build.proofs.BoundRuns.{recipe_is_there}
+use Rattle.op_build.proofs.decode.Codes.{decode_gives}
+use Rattle.op_build.proofs.bounds.Runs.{recipe_is_there}
 
 -- the code of a channel fits its depth
 pub code_below : (desc : Desc) (width rows : ℕ) (frame : List ℕ) (x row c : ℕ) → IsValid desc → All (λ byte. byte < 256) frame

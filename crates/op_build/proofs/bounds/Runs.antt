@@ -26,7 +26,7 @@ use Rattle.op_build.specs.ElementType.{element_type, is_swapped}
 use Rattle.pix_meaning.specs.Channels.{channel_depth}
 use Rattle.op_build.specs.Recipe.{only_if, channel_slots, missing_codes, slot_channels, spare_zeros, decode, convert, encode, recipe}
 use Rattle.op_build.specs.SideClasses.{side_class, side_classes, IsOneOf}
-use Rattle.op_build.proofs.BoundPairs.{converting_is_there}
+use Rattle.op_build.proofs.bounds.Pairs.{converting_is_there}
 
 -- ---- decoding and encoding
 decode_by : (palette swapped elements : Bool) (elem : PixType) (counts widths positions : List ℕ) (left right : ℕ) (codes : List (Option ℚ))

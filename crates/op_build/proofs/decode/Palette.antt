@@ -29,12 +29,12 @@ use Rattle.pix_meaning.specs.Channels.{missing_code}
 use Rattle.op_build.specs.Recipe.{decode, missing_codes, split, channel_slots}
 use Rattle.pix_desc.specs.Shape.{element_counts}
 use Rattle.op_build.specs.ElementType.{element_type, is_swapped}
-use Rattle.op_build.proofs.ByteNumbers.{in_order}
+use Rattle.op_build.proofs.shape.ByteNumbers.{in_order}
 use Rattle.pix_meaning.proofs.ChannelCodes.{code_of-there}
 use Rattle.pix_meaning.specs.Channels.{code_of}
-use Rattle.op_build.proofs.DecodeRuns.{decode_by, run_palette}
-use Rattle.op_build.proofs.ElementStarts.{word_begins}
-use Rattle.op_build.proofs.FieldValues.{element_field}
+use Rattle.op_build.proofs.decode.Runs.{decode_by, run_palette}
+use Rattle.op_build.proofs.shape.ElementStarts.{word_begins}
+use Rattle.op_build.proofs.shape.FieldValues.{element_field}
 use Rattle.op_list.proofs.Four.{same_four}
 
 -- The one component of a palette format is a byte a pixel.

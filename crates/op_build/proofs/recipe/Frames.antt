@@ -23,15 +23,15 @@ use Rattle.op_build.specs.Frames.{ReadsFrames, WritesFrames, FillsFrames}
 use Rattle.op_build.specs.Recipe.{decode, convert, encode, recipe, only_if, split, slot_channels, spare_zeros}
 use Rattle.pix_desc.specs.Shape.{element_bytes, element_counts, field_widths}
 use Rattle.op_build.specs.ElementType.{element_type, is_swapped}
-use Rattle.op_build.proofs.DecodePalette as palette
-use Rattle.op_build.proofs.DecodePalette.{is_byte_format}
-use Rattle.op_build.proofs.DecodePlain as plain
-use Rattle.op_build.proofs.ElementStarts.{plane_start_is}
+use Rattle.op_build.proofs.decode.Palette as palette
+use Rattle.op_build.proofs.decode.Palette.{is_byte_format}
+use Rattle.op_build.proofs.decode.Plain as plain
+use Rattle.op_build.proofs.shape.ElementStarts.{plane_start_is}
 use Rattle.pix_desc.proofs.PlaneSteps.{component_in}
 use Rattle.op_list.specs.Run.{write_length}
 use Rattle.op_list.proofs.Wholes.{ends_with_write-append, write_length-append}
-use Rattle.op_build.proofs.ElementTypes.{has_type, element_counts_are_good}
-use Rattle.op_build.proofs.SlotBits.{has_slot_bits}
+use Rattle.op_build.proofs.shape.ElementTypes.{has_type, element_counts_are_good}
+use Rattle.op_build.proofs.shape.SlotBits.{has_slot_bits}
 
 -- ---- the bytes of the planes
 

@@ -16,7 +16,7 @@ use Rattle.op_list.specs.Apply.{apply, cleared_number, packed}
 use Rattle.op_list.specs.Run.{run_from}
 use Rattle.op_list.specs.Typing.{stage_after}
 use Rattle.op_build.specs.Recipe.{only_if}
-use Rattle.op_build.proofs.ByteNumbers.{in_order}
+use Rattle.op_build.proofs.shape.ByteNumbers.{in_order}
 
 -- channels to positions, the positions' values to elements, and the elements
 abbrev pub encode_by : PixType → List ℕ → Bool → Op → List ℕ → List (Option ℚ) → List Op

@@ -10,7 +10,7 @@ use Rattle.pix_desc.specs.Layouts.{IsLaidOut}
 use Rattle.pix_desc.proofs.Bits.{bit_at_field}
 use Rattle.pix_desc.proofs.BitPositions.{position_of, bit_position_is, byte_below, frame_bit, frame_component_below}
 use Rattle.op_list.specs.Pixel.{number_at}
-use Rattle.op_build.proofs.ByteNumbers.{in_order, bit_at_in_order}
+use Rattle.op_build.proofs.shape.ByteNumbers.{in_order, bit_at_in_order}
 use Rattle.pix_desc.proofs.WordBits.{bit_in_order, number_bit_position, number_end}
 
 module _ (desc : Desc) (width rows : ℕ) (frame : List ℕ) (j x row : ℕ) (laid : IsLaidOut desc) (bytes : All (λ byte. byte < 256) frame)

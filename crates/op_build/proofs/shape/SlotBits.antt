@@ -17,10 +17,10 @@ use Rattle.pix_desc.proofs.Valid.{laid_out}
 use Rattle.pix_desc.proofs.WordBits.{bit_in_order, number_bit_position, number_end, word_bit_position}
 use Rattle.pix_desc.proofs.WordShape.{HasWord, length-field_widths, rest_below, sum-widths}
 use Rattle.op_list.specs.Whole.{bits_below}
-use Rattle.op_build.proofs.ElementStarts.{IsInPlane}
+use Rattle.op_build.proofs.shape.ElementStarts.{IsInPlane}
 
--- Slot p is `width p` bits of element `element p` of the pixel, from bit `low p` up. A component stands `up` bits above the lowest bit of its
--- slot, and its element is number `rest j` of those in its plane. An element has `size` bytes.
+-- Slot p is `width p` bits of element `element p` of the pixel, from bit `low p` up. A component stands `up` bits above the lowest bit of
+-- its slot, and its element is number `rest j` of those in its plane. An element has `size` bytes.
 pub record SlotBits : Type 0 where
   pub size : ℕ
   pub up : ℕ
@@ -137,11 +137,11 @@ are_field_bits desc valid is =
       step = λ j listed. ap (λ s. s % size) (is.step j listed) ∙ no_rest size is.size;
       within = λ p within. omega (arith, ap sum is.counts);
       room = λ p within. omega (
-            arith,
-            sum-widths desc is,
-            sum_by-take-drop (λ n. n) widths p,
-            sum_by-drop_more (λ n. n) widths p 0 (listed_width p within),
-          );
+        arith,
+        sum-widths desc is,
+        sum_by-take-drop (λ n. n) widths p,
+        sum_by-drop_more (λ n. n) widths p 0 (listed_width p within),
+      );
       inside = λ j listed. omega (arith, (component_field desc j laid is listed).0);
       there = λ j listed. subst (λ p. IsInPlane (element_counts desc) 0 p 0) (sym (is.plane j listed))
           (subst (λ counts. IsInPlane counts 0 0 0) (sym is.counts) only_element);

@@ -25,14 +25,14 @@ use Rattle.pix_meaning.specs.Channels.{missing_code}
 use Rattle.op_build.specs.Codes.{decoded_type, IsWholeTyped}
 use Rattle.op_build.specs.Recipe.{decode, only_if, split, channel_slots, missing_codes}
 use Rattle.pix_meaning.proofs.ChannelCodes.{missing_code-below, channel_listed}
-use Rattle.op_build.proofs.DecodePlain as Plain
-use Rattle.op_build.proofs.DecodePlain.{split_elements, split_word}
-use Rattle.op_build.proofs.DecodePalette as Palette
+use Rattle.op_build.proofs.decode.Plain as Plain
+use Rattle.op_build.proofs.decode.Plain.{split_elements, split_word}
+use Rattle.op_build.proofs.decode.Palette as Palette
 use Rattle.pix_desc.proofs.ElementSlots.{HasElements}
 use Rattle.op_list.proofs.Four.{four_hold}
 use Rattle.pix_desc.proofs.PixelSlots.{first_size, has_layout, has_slots}
-use Rattle.op_build.proofs.ElementTypes.{has_type, element_counts_are_good, field_widths_are_good}
-use Rattle.op_build.proofs.SlotBits.{has_slot_bits}
+use Rattle.op_build.proofs.shape.ElementTypes.{has_type, element_counts_are_good, field_widths_are_good}
+use Rattle.op_build.proofs.shape.SlotBits.{has_slot_bits}
 use Rattle.pix_desc.proofs.WordBits.{number_end}
 use Rattle.pix_desc.proofs.WordShape.{HasWord}
 

@@ -106,5 +106,6 @@ widths_are_good desc is =
 -- the fields of a word come to its bits
 pub field_widths_are_good : (desc : Desc) → HasWord desc → are_counts (bits (element_type desc)) (field_widths desc) ≡ true
 field_widths_are_good desc is =
-    let e : bits (element_type desc) ≡ 8 * (component_of desc 0).step = (has_type_of desc (word_size desc is)).bits ∙ ap (λ s. 8 * s) is.bytes in
+    let e : bits (element_type desc) ≡ 8 * (component_of desc 0).step =
+    (has_type_of desc (word_size desc is)).bits ∙ ap (λ s. 8 * s) is.bytes in
     ap (λ most. are_counts most (field_widths desc)) e ∙ widths_are_good desc is

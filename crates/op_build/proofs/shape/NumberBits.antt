@@ -1,9 +1,9 @@
 -- The numbers of a pixel's elements, in the format's byte order: what their bits are, and that each slot holds its component's value or 0.
-use Rattle.std.proofs.Common.{◌≡◌, ℕ, ◌+◌, ◌-◌, ◌*◌, ◌/◌, ◌%◌, ◌^◌, ◌<◌, ◌≤◌, ⊎_elim, Bool, true, false, List, All, take, length, get_or}
-use Rattle.std.proofs.Common.{Option, Some, None, pow_mono, pow_pos, mod-lt, sym, refl, ap, subst, ◌∙◌, arith}
+use Rattle.std.proofs.Common.{◌≡◌, ℕ, ◌+◌, ◌*◌, ◌/◌, ◌%◌, ◌^◌, ◌<◌, ◌≤◌, ⊎_elim, Bool, true, false, List, All, take, length, get_or}
+use Rattle.std.proofs.Common.{Option, Some, None, pow_mono, pow_pos, mod-lt, sym, refl, ap, ◌∙◌, arith}
 use Rattle.std.specs.Prelude.{sum}
 use Rattle.std.specs.Int.{bit_at}
-use Rattle.std.proofs.lemmas.Bool.{cases_Bool, cases_lt}
+use Rattle.std.proofs.lemmas.Bool.{cases_Bool}
 use Rattle.std.proofs.lemmas.Nat.{div-mul-add, mod-mul-add, mul-add-lt, pow-add}
 use Rattle.std.proofs.lemmas.Nat.Bits.{same_from_bits_below, bit_at-zero}
 use Rattle.pix_desc.specs.declared.desc.Desc.{Desc}
@@ -20,10 +20,10 @@ use Rattle.pix_desc.proofs.Valid.{laid_out}
 use Rattle.pix_desc.proofs.WordBits.{bit_in_order}
 use Rattle.op_list.specs.declared.position.PixelPosition.{PixelPosition}
 use Rattle.op_list.specs.Pixel.{number_at, element_in, pixel_count, pixel_number}
-use Rattle.op_build.proofs.ByteNumbers.{in_order, bit_at_in_order}
-use Rattle.op_build.proofs.ElementStarts.{IsInPlane, find_in_plane, whole_steps, element_starts}
-use Rattle.op_build.proofs.FieldValues.{same_field}
-use Rattle.op_build.proofs.SlotBits.{SlotBits, AreSlotBits, lowest_bit}
+use Rattle.op_build.proofs.shape.ByteNumbers.{in_order, bit_at_in_order}
+use Rattle.op_build.proofs.shape.ElementStarts.{IsInPlane, find_in_plane, whole_steps, element_starts}
+use Rattle.op_build.proofs.shape.FieldValues.{same_field}
+use Rattle.op_build.proofs.shape.SlotBits.{SlotBits, AreSlotBits, lowest_bit}
 
 -- quotient and rest are determined
 same_parts : (q r a b w : ℕ) → a < w → b < w → q * w + a ≡ r * w + b → (q ≡ r) × (a ≡ b)
@@ -77,7 +77,8 @@ module _ (desc : Desc) (valid : IsValid desc) (s : SlotBits) (is : AreSlotBits d
       let c = component_of desc j in
       let at = pixel_start c.plane + s.rest j * s.size in
       let slot = (has_slots desc valid).within j listed in
-      ap (λ n. n / 2 ^ lowest_bit desc s j % 2 ^ c.depth) (number_is (s.element (position_of desc j)) c.plane (s.rest j) (is.there j listed))
+      ap (λ n. n / 2 ^ lowest_bit desc s j % 2 ^ c.depth)
+      (number_is (s.element (position_of desc j)) c.plane (s.rest j) (is.there j listed))
       ∙ same_field desc position.width position.rows frame j position.x position.row laid bytes listed s.size at (lowest_bit desc s j)
       (omega (arith, is.room (position_of desc j) slot, is.inside j listed))
       (λ b inside. omega (arith, is.bits j b listed inside, ap (λ t. position.x * t) (laid.step j listed)))
@@ -140,7 +141,7 @@ module _ (desc : Desc) (valid : IsValid desc) (s : SlotBits) (is : AreSlotBits d
 
   module _ (value : ℕ → ℕ → ℕ → ℕ) (says : IsFrameOf desc position.width position.rows value frame)
       (fit : FitDepths desc position.width position.rows value) (column : position.x < position.width) (line : position.row < position.rows)
-      where
+    where
       abbrev here : ℕ → ℕ
       here j = value j position.x position.row
 
@@ -186,7 +187,8 @@ module _ (desc : Desc) (valid : IsValid desc) (s : SlotBits) (is : AreSlotBits d
           let by = read_by desc q k read in
           let mine = own_slot p q found.1 i by.0 by.1 within found.2 inside by.2 in
           placed
-          ∙ sym (frame_bit_by desc position.width position.rows frame q position.x position.row k by.0 by.1 (laid_out desc valid) bytes by.2)
+          ∙ sym (frame_bit_by desc position.width position.rows frame q position.x position.row k by.0 by.1 (laid_out desc valid)
+          bytes by.2)
           ∙ ap (λ v. bit_at v by.1) (says.reads by.0 position.x position.row by.2.listed column line)
           ∙ sym (bit_at_shifted (here by.0) s.up by.1)
           ∙ ap (bit_at (here by.0 * 2 ^ s.up)) mine.1

@@ -103,7 +103,8 @@ affine_applied : (frame : List ℕ) (position : PixelPosition) (stage : Stage) (
     → apply frame position stage (affine plain scale constant) (Fractions (four f)) ≡ Fractions (four (λ c. scale c *ℚ f c +ℚ constant c))
 unfolding apply
 affine_applied frame position stage true scale constant f is =
-    ap Fractions (same_four (λ c. f c *ℚ scale 0) (λ c. scale c *ℚ f c +ℚ constant c) (λ c below. scaled scale constant f c (is refl) below))
+    ap Fractions (same_four (λ c. f c *ℚ scale 0) (λ c. scale c *ℚ f c +ℚ constant c)
+    (λ c below. scaled scale constant f c (is refl) below))
 affine_applied frame position stage false scale constant f is = diagonal_applied frame position stage scale constant f
 
 -- ---- from codes to values, and back

@@ -34,14 +34,15 @@ use Rattle.op_list.proofs.Stored.{element_of-past}
 use Rattle.op_build.specs.ElementType.{element_type, is_swapped}
 use Rattle.op_build.specs.Meaning.{elements_at}
 use Rattle.op_build.specs.Recipe.{encode, slot_channels, spare_zeros}
-use Rattle.op_build.proofs.ByteNumbers.{in_order}
-use Rattle.op_build.proofs.ElementTypes.{has_type}
-use Rattle.op_build.proofs.EncodePacked.{packed_fields}
-use Rattle.op_build.proofs.EncodeRuns.{encode_by, run_shift, run_pack}
-use Rattle.op_build.proofs.EncodeSlots.{GivesValues, made, position_again, placed, number_of, number_below, type_bits, slot_written, element_written}
-use Rattle.op_build.proofs.SlotBits.{element_bits, are_element_bits, field_bits, are_field_bits}
+use Rattle.op_build.proofs.shape.ByteNumbers.{in_order}
+use Rattle.op_build.proofs.shape.ElementTypes.{has_type}
+use Rattle.op_build.proofs.encode.Packed.{packed_fields}
+use Rattle.op_build.proofs.encode.Runs.{encode_by, run_shift, run_pack}
+use Rattle.op_build.proofs.encode.Slots.{GivesValues, made, position_again, placed, number_of, number_below, type_bits, slot_written, element_written}
+use Rattle.op_build.proofs.shape.SlotBits.{element_bits, are_element_bits, field_bits, are_field_bits}
 
-encode_is : (desc : Desc) (join : Op) → (if is_elements desc then LeftShift (component_of desc 0).shift else Pack (field_widths desc)) ≡ join
+encode_is : (desc : Desc) (join : Op)
+    → (if is_elements desc then LeftShift (component_of desc 0).shift else Pack (field_widths desc)) ≡ join
     → encode desc
     ≡ encode_by (element_type desc) (element_counts desc) (is_swapped desc) join (slot_channels desc) (spare_zeros desc)
 unfolding encode
@@ -53,7 +54,8 @@ module _ (desc : Desc) (position : PixelPosition) (value : ℕ → ℕ → ℕ �
     -- element i of the pixel of the frame that is made
     abbrev wanted : ℕ → ℕ
     wanted i =
-        element_of (element_type desc) (element_counts desc) (made desc position value vs gives) (position_again desc position value vs gives) i
+        element_of (element_type desc) (element_counts desc) (made desc position value vs gives)
+        (position_again desc position value vs gives) i
 
     abbrev value_at : ℕ → ℕ
     value_at p = placed desc position value vs gives p
@@ -63,7 +65,8 @@ module _ (desc : Desc) (position : PixelPosition) (value : ℕ → ℕ → ℕ �
     module _ (is : HasElements desc (first_size desc)) where
       abbrev element_made : ℕ → ℕ
       element_made i =
-          in_order (is_swapped desc) (bytes (element_type desc)) (value_at i * 2 ^ (component_of desc 0).shift % 2 ^ bits (element_type desc))
+          in_order (is_swapped desc) (bytes (element_type desc))
+          (value_at i * 2 ^ (component_of desc 0).shift % 2 ^ bits (element_type desc))
 
       made_within : (i : ℕ) → i < 4 → i < sum (element_counts desc) → element_made i ≡ wanted i
       made_within i below within =

@@ -29,11 +29,11 @@ use Rattle.pix_meaning.specs.Channels.{channel_depth}
 use Rattle.op_build.specs.Recipe.{only_if, over_three, from_codes, to_codes, to_codes_by, limits, convert}
 use Rattle.op_range.specs.FractionBounds.{FractionBound, HaveBounds, bound_in, limited_bound, bounds_after, bounds_from}
 use Rattle.op_build.specs.SideClasses.{SideClass, side_class_of, side_class, side_classes, IsOneOf}
-use Rattle.op_build.proofs.ClassTests.{class_levels, source_ops, target_rows_ops, code_bounds, is_there, test_then, target_fits}
-use Rattle.op_build.proofs.ClassTests.{source_fits}
+use Rattle.op_build.proofs.bounds.ClassTests.{class_levels, source_ops, target_rows_ops, code_bounds, is_there, test_then, target_fits}
+use Rattle.op_build.proofs.bounds.ClassTests.{source_fits}
 use Rattle.op_range.proofs.FractionBounds.{nat_bound}
 use Rattle.op_range.proofs.FractionBoundSteps.{of_four, run_there}
-use Rattle.op_build.proofs.BoundClasses.{classes_fit}
+use Rattle.op_build.proofs.bounds.Classes.{classes_fit}
 
 -- ---- what a true test gives
 every_one : {A : Type 0} (f : A → Bool) (xs : List A) (x : A) → list_all f xs ≡ true → IsOneOf x xs → f x ≡ true
