@@ -8,7 +8,7 @@ use Rattle.pix_desc.specs.declared.desc.Desc.{Desc}
 use Rattle.pix_meaning.specs.declared.pair.Side.{Side}
 use Rattle.pix_meaning.specs.declared.pair.Pair.{Pair}
 use Rattle.pix_meaning.specs.Pairs.{IsValidPair}
-use Rattle.op_build.proofs.BoundFrames.{checked_is_there}
+use Rattle.op_build.proofs.bounds.Frames.{checked_is_there}
 use Rattle.row_plan.specs.Evaluated.{IsNamed, IsEvaluated, side_at, IsTableSide, TablePairsHavePlans}
 use Rattle.row_plan.proofs.NamedMatrices.{named_is_matrix}
 use Rattle.row_plan.proofs.TableClasses.{side_at_there}
