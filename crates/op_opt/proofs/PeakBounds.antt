@@ -6,15 +6,17 @@ use Rattle.std.specs.List.{list_all}
 use Rattle.std.specs.Option.{option_and_then}
 use Rattle.std.proofs.lemmas.Bool.{and_parts}
 use Rattle.std.proofs.lemmas.Option.{same_Some, none-some, option_and_then_some}
+use Rattle.std.proofs.Math.Nat.{mul-le-mul_left}
 use Prim.Native.Nat.{◌∣◌}
 use Rattle.frac_math.specs.Fraction.{ℚ}
-use Rattle.op_list.specs.declared.types.PixType.TheVariants.{Rat}
+use Rattle.op_list.specs.declared.types.PixType.{PixType}
+use Rattle.op_list.specs.declared.types.PixType.TheVariants.{U8, U16, U32, Rat}
 use Rattle.op_list.specs.declared.types.Stage.{Stage}
 use Rattle.op_list.specs.declared.types.Stage.TheVariants.{Typed}
 use Rattle.op_list.specs.declared.op.Op.{Op}
 use Rattle.op_list.specs.declared.op.Op.TheVariants.{Read, Write, SwapBytes, Unpack, Pack, Clear, LeftShift, RightShift, Swizzle}
 use Rattle.op_list.specs.declared.op.Op.TheVariants.{Convert, Dither, Linear, Scale, Min, Max}
-use Rattle.op_list.specs.Types.{is_rational, bits_at}
+use Rattle.op_list.specs.Types.{is_rational, is_whole_type, bits_at}
 use Rattle.op_list.specs.Typing.{stage_after, stage_from, are_typed}
 use Rattle.op_list.specs.Values.{four, entry}
 use Rattle.op_list.proofs.Four.{get_or-four}
@@ -91,21 +93,22 @@ one_small stage op rest s is small behind =
     subst (λ (n : Stage). max (if is_rational n then after.peak else 0) (peak_from n rest after) < 2 ^ 126) (sym is)
     (both_small (is_rational stage) after.peak (peak_from stage rest after) (2 ^ 126) small behind)
 
--- What is known of a state: it is not above another whose peak is small.
+-- A state that is not above another whose peak is small.
 pub record IsUnder (s most : Peaked) : Type 0 where
   pub positive : 0 < s.width.denominator
   pub most_positive : 0 < most.width.denominator
   pub below : Below all_used s most
+  pub small : most.peak < 2 ^ 126
 
 pub behind_one : (stage : Stage) (op : Op) (rest : List Op) (s most : Peaked) → stage_after stage op ≡ stage
     → are_typed stage (op ∷ rest) ≡ true
-    → IsUnder (peaked_after stage op (used_from rest) s) most → most.peak < 2 ^ 126
+    → IsUnder (peaked_after stage op (used_from rest) s) most
     → ((left : Peaked) → are_typed stage rest ≡ true → IsUnder left most → peak_from stage rest left < 2 ^ 126)
     → peak_from stage (op ∷ rest) s < 2 ^ 126
-behind_one stage op rest s most is typed under small behind =
+behind_one stage op rest s most is typed under behind =
     let after = peaked_after stage op (used_from rest) s in
     let less = peak_most all_used after most under.most_positive under.below in
-    one_small stage op rest s is (omega (arith, less, small))
+    one_small stage op rest s is (omega (arith, less, under.small))
     (behind after (subst (λ (n : Stage). are_typed n rest ≡ true) is (typed_parts stage op rest typed).2) under)
 
 test_some : {A P : Type 0} (b : Bool) (x y : A) → (if b then Some x else None) ≡ Some y → (b ≡ true → x ≡ y → P) → P
@@ -134,8 +137,9 @@ small_step stage op rest s t next r keeps typed under is behind =
       positive = next_positive stage op used s under.positive;
       most_positive = subst (λ (m : Peaked). 0 < m.width.denominator) most (next_positive stage op all_used t under.most_positive);
       below = subst (λ (m : Peaked). Below all_used (peaked_after stage op used s) m) most below;
+      small = subst (λ (m : Peaked). m.peak < 2 ^ 126) same (ltb-true _ _ small);
     })
-    (subst (λ (m : Peaked). m.peak < 2 ^ 126) same (ltb-true _ _ small)) behind)
+    behind)
 
 -- some operations more, from a state that is not above t
 pub small_along : (stage : Stage) (ops rest : List Op) (s t last : Peaked) → is_rational stage ≡ true → list_all keeps_stage ops ≡ true
@@ -172,8 +176,9 @@ dither_step stage k most rest s t next r places typed under is behind =
           (next_positive stage (Dither most) all_used t under.most_positive);
       below = subst (λ (m : Peaked). Below all_used (peaked_after stage (Dither k) used s) m) same
           (subst (λ (m : Peaked). Below all_used m last) (sym first) below);
+      small = subst (λ (m : Peaked). m.peak < 2 ^ 126) same (ltb-true _ _ small);
     })
-    (subst (λ (m : Peaked). m.peak < 2 ^ 126) same (ltb-true _ _ small)) behind)
+    behind)
 
 -- ---- operations on whole numbers
 neither : (a b : Bool) → (a || b) ≡ false → (a ≡ false) × (b ≡ false)
@@ -205,6 +210,50 @@ no_peak stage (op ∷ ops) s whole =
     let parts = neither (is_rational next) (has_fractions next ops) whole in
     let after = peaked_after stage op (used_from ops) s in
     no_head (is_rational next) after.peak (peak_from next ops after) parts.0 ∙ no_peak next ops after parts.1
+
+-- an operation behind which whole numbers are whole numbers
+abbrev pub leaves_whole : Op → Bool
+leaves_whole (Read elem planes palette) = is_whole_type elem
+leaves_whole (Convert to expand) = is_whole_type to
+leaves_whole _ = true
+
+pub whole_no_fractions : (elem : PixType) → is_whole_type elem ≡ true → is_rational (Typed elem) ≡ false
+whole_no_fractions U8 h = refl
+whole_no_fractions U16 h = refl
+whole_no_fractions U32 h = refl
+whole_no_fractions Rat h = absurd (cc)
+
+whole_after : (stage : Stage) (op : Op) → is_rational stage ≡ false → leaves_whole op ≡ true → is_rational (stage_after stage op) ≡ false
+unfolding stage_after
+whole_after stage (Read elem planes palette) w h = whole_no_fractions elem h
+whole_after stage (Write elem planes) w h = refl
+whole_after stage SwapBytes w h = w
+whole_after stage (Unpack widths) w h = w
+whole_after stage (Pack widths) w h = w
+whole_after stage (Clear entries) w h = w
+whole_after stage (LeftShift n) w h = w
+whole_after stage (RightShift n) w h = w
+whole_after stage (Swizzle from) w h = w
+whole_after stage (Convert to expand) w h = whole_no_fractions to h
+whole_after stage (Dither k) w h = w
+whole_after stage (Linear rows) w h = w
+whole_after stage (Scale by) w h = w
+whole_after stage (Min limits) w h = w
+whole_after stage (Max limits) w h = w
+
+both_false : (a b : Bool) → a ≡ false → b ≡ false → (a || b) ≡ false
+both_false true b h k = absurd (cc)
+both_false false b h k = k
+
+pub whole_list : (stage : Stage) (ops : List Op) → is_rational stage ≡ false → list_all leaves_whole ops ≡ true
+    → has_fractions stage ops ≡ false
+unfolding has_fractions
+whole_list stage [] w h = refl
+whole_list stage (op ∷ ops) w h =
+    let parts = and_parts (leaves_whole op) (list_all leaves_whole ops) h in
+    let next = whole_after stage op w parts.0 in
+    both_false (is_rational (stage_after stage op)) (has_fractions (stage_after stage op) ops) next
+    (whole_list (stage_after stage op) ops next parts.1)
 
 -- whole numbers of so many bits
 abbrev pub whole_peaked : ℕ → Peaked
@@ -239,7 +288,12 @@ from_whole stage many rest s w few most typed behind =
     (both_small true (2 ^ bits_at stage - 1) (peak_from (Typed Rat) rest (whole_peaked (bits_at stage))) (2 ^ 126)
     (first_small (bits_at stage) many few most)
     (behind (whole_peaked (bits_at stage)) (typed_parts stage (Convert Rat false) rest typed).2
-    (record { positive = omega arith; most_positive = omega arith; below = whole_below (bits_at stage) many few })))
+    (record {
+      positive = omega arith;
+      most_positive = omega arith;
+      below = whole_below (bits_at stage) many few;
+      small = first_small many many (omega arith) most;
+    })))
 
 -- ---- limits that are whole numbers
 -- the limits that are given are whole numbers, at most so great
@@ -263,6 +317,17 @@ entries_small limits most s are =
 pub record IsLow (most : ℕ) (s : Peaked) : Type 0 where
   pub peak : s.peak < 2 ^ 126
   pub limits : most * s.width.denominator < 2 ^ 126
+
+-- a state below one that is
+pub low_under : (most : ℕ) (s t : Peaked) → IsUnder s t → most * t.width.denominator < 2 ^ 126 → IsLow most s
+low_under most s t under small = record {
+  peak = omega (arith, peak_most all_used s t under.most_positive under.below, under.small);
+  limits =
+      (let d = s.width.denominator in
+      let fewer = no_more d under.below.ratio t.width.denominator d t.width.denominator under.below.denominator under.most_positive
+      (omega (arith, under.below.denominator)) in
+      omega (arith, mul-le-mul_left most fewer, small));
+}
 
 abbrev limited : List (Option ℚ) → Peaked → Peaked
 limited limits s = peaked (limited_width limits s.width) (entries_peak limits s)
