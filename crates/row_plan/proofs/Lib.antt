@@ -6,6 +6,7 @@ pub mod TableClasses
 pub mod Evaluated
 pub mod PeakTests
 pub mod PeakClasses
+pub mod PeakPairs
 pub mod Written
 pub mod ConvertedPixels
 pub mod ConvertedRows
