@@ -6,7 +6,7 @@ ghost use Rattle.pix_meaning.specs.Pairs.{IsValidPair};
 ghost use Rattle.op_build.specs.Recipe.{recipe};
 ghost use Rattle.op_opt.specs.Normal.{normal};
 ghost use Rattle.op_text.specs.Line.{text_of};
-ghost use Rattle.row_plan.specs.Evaluated.{IsEvaluated};
+ghost use Rattle.row_plan.specs.Evaluated.{Fits};
 
 use op_list::OpList;
 use op_opt::NormalList;
@@ -23,7 +23,7 @@ pub struct Plan {
     pub(crate) text: String,
     pub ghost valid: { IsValidPair pair } by { Prim.hlevel props },
     pub ghost plain: { pair.to.desc.palette ≡ false },
-    pub ghost evaluated: { IsEvaluated pair } by { Prim.hlevel props },
+    pub ghost fits: { Fits pair } by { Prim.hlevel props },
     pub ghost made: { list ≡ recipe pair } by { Coded-set list-code list (recipe pair) },
     pub ghost settled: { optimised ≡ normal (recipe pair) } by { Coded-set optimised-code optimised (normal (recipe pair)) },
     pub ghost shown: { string_bytes text ≡ text_of (normal (recipe pair)) } by { Prim.hlevel props },
