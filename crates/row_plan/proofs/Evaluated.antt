@@ -1,5 +1,5 @@
 -- Every pair of formats of the table fits, and so has a plan.
-use Rattle.std.proofs.Common.{◌≡◌, ℕ, ◌^◌, ◌<◌, ◌≤◌, sym, ap, subst, arith}
+use Rattle.std.proofs.Common.{◌≡◌, ◌≤◌, sym, ap, subst, arith}
 use Rattle.desc_table.proofs.Rows.{valid_at}
 use Rattle.pix_desc.specs.declared.desc.Desc.{Desc}
 use Rattle.pix_desc.specs.Layouts.{IsValid}
@@ -7,8 +7,6 @@ use Rattle.pix_meaning.specs.declared.pair.Side.{Side}
 use Rattle.pix_meaning.specs.declared.pair.Pair.{Pair}
 use Rattle.pix_meaning.specs.Pairs.{IsValidPair, is_rgb}
 use Rattle.op_list.specs.Types.{bits}
-use Rattle.op_range.specs.Width.{width}
-use Rattle.op_opt.specs.Normal.{normal}
 use Rattle.op_opt.proofs.PeakLaws.{normal_narrow}
 use Rattle.op_build.specs.Codes.{decoded_type}
 use Rattle.op_build.specs.Recipe.{recipe}

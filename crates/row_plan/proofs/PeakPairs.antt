@@ -1,5 +1,5 @@
 -- The peak of the recipe of a pair whose sides are of the classes is below 2^126.
-use Rattle.std.proofs.Common.{◌≡◌, ℕ, zero, suc, ◌-◌, ◌*◌, ◌/◌, ◌^◌, ◌<◌, ◌≤◌, Bool, true, false, not, if◌then◌else◌, List, [], ◌∷◌, ◌++◌, max, pow_mono}
+use Rattle.std.proofs.Common.{◌≡◌, ℕ, zero, suc, ◌-◌, ◌*◌, ◌/◌, ◌^◌, ◌<◌, ◌≤◌, Bool, true, false, not, if◌then◌else◌, List, [], ◌∷◌, ◌++◌, pow_mono}
 use Rattle.std.proofs.Common.{append_assoc, ltb-true, subst, refl, sym, ◌∙◌, ap, arith}
 use Rattle.std.specs.Prelude.{Option, Some, None}
 use Rattle.std.specs.List.{list_all}
@@ -25,8 +25,8 @@ use Rattle.op_list.specs.declared.op.Op.{Op}
 use Rattle.op_list.specs.declared.op.Op.TheVariants.{Read, Write, SwapBytes, Unpack, Pack, Clear, LeftShift, RightShift, Swizzle, Convert}
 use Rattle.op_list.specs.declared.op.Op.TheVariants.{Dither, Linear, Scale, Min, Max}
 use Rattle.op_list.specs.Types.{bits, is_whole_type}
-use Rattle.op_list.specs.Values.{four, entry}
-use Rattle.op_list.specs.Typing.{stage_after, stage_from, are_typed}
+use Rattle.op_list.specs.Values.{four}
+use Rattle.op_list.specs.Typing.{stage_after, are_typed}
 use Rattle.op_list.proofs.Four.{get_or-four}
 use Rattle.op_list.proofs.Typed.{typed_fronts}
 use Rattle.op_range.specs.Width.{multiple_with, has_fractions}
@@ -43,7 +43,7 @@ use Rattle.op_build.proofs.BoundPairs.{every_one, then_there, class_list, conver
 use Rattle.op_build.proofs.BoundRuns.{recipe_parts}
 use Rattle.op_opt.specs.Peak.{Peaked, given_size, start_peaked, peak_from, peak}
 use Rattle.op_opt.proofs.PeakBounds.{keeps_stage, leaves_whole, whole_list, whole_no_fractions, whole_front, from_whole, no_peak, whole_peaked}
-use Rattle.op_opt.proofs.PeakBounds.{small_after, small_from, IsUnder, small_along, dither_step, AreLimits, IsLow, low_under, max_step, min_step}
+use Rattle.op_opt.proofs.PeakBounds.{small_after, small_from, IsUnder, small_along, dither_step, AreLimits, low_under, max_step, min_step}
 use Rattle.row_plan.proofs.PeakTests.{bits_of, greatest_limit, target_is_low, source_is_low}
 use Rattle.row_plan.proofs.PeakClasses.{classes_are_low}
 
