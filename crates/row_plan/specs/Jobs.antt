@@ -24,9 +24,13 @@ abbrev pub signed_number : ℤ → ℕ
 signed_number (pos n) = 2 * n
 signed_number (negsuc n) = 2 * n + 1
 
+abbrev pub component_before : Comp → List ℕ → List ℕ
+component_before c rest = c.plane ∷ c.step ∷ signed_number c.offset ∷ c.shift ∷ c.depth ∷ rest
+
+-- the four entries of a descriptor; of a list of other length nothing is told
 abbrev pub components_before : List Comp → List ℕ → List ℕ
-components_before [] rest = rest
-components_before (c ∷ cs) rest = c.plane ∷ c.step ∷ signed_number c.offset ∷ c.shift ∷ c.depth ∷ components_before cs rest
+components_before (c0 ∷ c1 ∷ c2 ∷ c3 ∷ []) rest = component_before c0 (component_before c1 (component_before c2 (component_before c3 rest)))
+components_before _ rest = []
 
 abbrev pub desc_before : Desc → List ℕ → List ℕ
 desc_before desc rest =
