@@ -34,13 +34,14 @@ fn three_jobs(alloc: Global, pair: &Pair) -> Result<Vec<SliceJob>, AllocError>
     requires to { IsValid pair.now.to.desc }
     ensures count { IfOk result (λ jobs. length jobs.items ≡ 3) }
     ensures numbered { IfOk result (λ jobs. AreNumbered job_number jobs.items) }
-    ensures pair { IfOk result (λ jobs. All (BeginsWith pair.now) (map job_origin jobs.items)) }
+    ensures pair { IfOk result
+        (λ jobs. All (λ made. BeginsWith pair.now (job_origin made)) jobs.items) }
 {
-    Ok(vec![in alloc;
-        job(alloc, pair, 0)?,
-        job(alloc, pair, 1)?,
-        job(alloc, pair, 2)?,
-    ]?)
+    let mut jobs = Vec::new(alloc);
+    for number in 0..3 {
+        jobs.push(job(alloc, pair, number)?)?;
+    }
+    Ok(jobs)
 }
 
 // The hand has drawn a slice, and its share is as it was.
@@ -117,7 +118,7 @@ fn converted(
         to,
         dither: 0,
     };
-    let Ok(plan) = plan(alloc, &pair) else {
+    let Ok(plan) = plan(alloc, &pair, 0) else {
         return Ok(None);
     };
     let (board, mut hand) = Board::new(alloc, three_jobs(alloc, &pair)?, 2)?;
