@@ -17,6 +17,7 @@ mod used;
 mod walk;
 mod width;
 
+pub use numbers::is_at_most;
 pub use range::{Ranges, ValueRange};
 pub use state::{CompRange, StateRange, ranges};
 pub use used::{Used, used_before, used_from};

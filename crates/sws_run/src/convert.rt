@@ -46,7 +46,7 @@ fn plan_of(alloc: Global, conversion: &Conversion, header: &Header) -> Result<Pl
     requires header { IsSoundOpening header.now }
     ensures { IfOk result (λ plan. plan.pair ≡ pair_of conversion.now header.now) }
 {
-    match plan(alloc, &pair_of(conversion, header)) {
+    match plan(alloc, &pair_of(conversion, header), 0) {
         Ok(plan) => Ok(plan),
         Err(BuildFault::OutOfMemory) => Err(OutOfMemory),
         Err(BuildFault::PaletteTarget) => unreachable!(),
