@@ -21,7 +21,6 @@ pub mod Places
 pub mod Normals
 pub mod PutTogether
 pub mod AlongPlaces
-pub mod PeakMultiples
 pub mod PeakSteps
 pub mod PeakFronts
 pub mod PeakTidy
