@@ -19,6 +19,7 @@ pub mod CancellingPacking
 pub mod Walk
 pub mod Places
 pub mod Normals
+pub mod Ends
 pub mod PutTogether
 pub mod AlongPlaces
 pub mod PeakSteps
