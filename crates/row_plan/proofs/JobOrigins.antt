@@ -1,5 +1,5 @@
 -- What a slice was given with is one list of numbers, from which each part of it can be read.
-use Rattle.std.proofs.Common.{◌≡◌, ℕ, zero, suc, ◌+◌, ◌*◌, Bool, true, false, ℤ, pos, negsuc, List, [], ◌∷◌, length, drop, get_or, refl, sym, ◌∙◌, ap, arith, subst}
+use Rattle.std.proofs.Common.{◌≡◌, ℕ, Bool, true, false, ℤ, pos, negsuc, List, [], ◌∷◌, length, drop, get_or, refl, ap, arith}
 use Rattle.pix_desc.specs.declared.desc.Comp.{Comp}
 use Rattle.pix_desc.specs.declared.desc.Desc.{Desc}
 use Rattle.colour_matrix.specs.declared.class.Range.{Range}

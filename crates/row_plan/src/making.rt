@@ -38,8 +38,9 @@ fn text_of(alloc: Global, list: &NormalList) -> Result<String, BuildFault>
 }
 
 /// The plan of a pair that is valid, and fits where its target is no palette format: every pair of
-/// the table with named matrices is such a one (`laws::table_pairs_have_plans`). PaletteTarget comes exactly where the target is a palette
-/// format, and OutOfMemory where an allocation is refused.
+/// the table with named matrices is such a one (`laws::table_pairs_have_plans`). PaletteTarget
+/// comes exactly where the target is a palette format, and OutOfMemory where an allocation is
+/// refused.
 pub fn plan(alloc: Global, pair: &Pair, stamp: u64) -> Result<Plan, BuildFault>
     requires { IsPlannable pair.now }
     ensures pair { IfOk result (λ plan. plan.pair ≡ pair.now) }

@@ -205,7 +205,10 @@ fn shows_normal_lists(rt: HostRuntime) -> Result<(), Fail> {
     for (from, to, dither, text) in TEXTS {
         let source = side_of(from, "bt601", Range::Full).ok_or("a side")?;
         let target = side_of(to, "bt601", Range::Full).ok_or("a side")?;
-        assert!(rt; has_text(rt.alloc(), source, target, dither, text), "{from} {to}");
+        assert!(rt;
+            has_text(rt.alloc(), source, target, dither, text),
+            "{from} {to}"
+        );
     }
     Ok(())
 }
