@@ -7,20 +7,15 @@ use Rattle.list_cache.specs.Cells.{KnowsPair}
 use Rattle.list_cache.specs.declared.seen.Seen.{Seen}
 use Rattle.list_cache.specs.declared.seen.Seen.TheVariants.{Shared, Own}
 
--- A shared plan is for the pair asked, and it is the one that the note knows.
-pub record IsShared (asked : Pair) (known : Option Plan) (plan : Plan) : Type 0 where
-  pub pair : plan.pair ≡ asked
-  pub kept : known ≡ Some plan
-
--- An own plan is for the pair asked, with the stamp asked, and only where the note knows a plan of another pair.
+-- An own plan has the stamp asked, and comes only where the note knows a plan of another pair than was asked.
 pub record IsOwn (asked : Pair) (stamp : ℕ) (known : Option Plan) (plan : Plan) (other : Pair) : Type 0 where
-  pub pair : plan.pair ≡ asked
   pub stamped : plan.stamp ≡ stamp
   pub kept : KnowsPair known other
   pub differs : other ≢ asked
 
+-- A shared plan is the one that the note knows.
 abbrev pub IsSeen : Pair → ℕ → Option Plan → Seen → Type 0
-IsSeen asked stamp known (Shared plan) = IsShared asked known plan.now
+IsSeen asked stamp known (Shared plan) = known ≡ Some plan.now
 IsSeen asked stamp known (Own plan other) = IsOwn asked stamp known plan other
 
 -- It is the plan of the cell.

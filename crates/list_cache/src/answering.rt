@@ -1,7 +1,7 @@
 // What a look answers beside the plan that its cell keeps.
 ghost use Rattle.std.specs.Prelude.{◌≡◌, ◌↔◌, true, Some, IfOk, IsOkAnd};
 ghost use Rattle.row_plan.specs.Evaluated.{IsPlannable};
-ghost use Rattle.list_cache.specs.Looks.{IsSeen, IsSharedPlan};
+ghost use Rattle.list_cache.specs.Looks.{plan_of, IsSeen, IsSharedPlan};
 
 use crate::seen::Seen;
 use op_build::BuildFault;
@@ -17,6 +17,7 @@ pub(crate) fn answer_beside<'a>(
     stamp: u64,
 ) -> Result<Seen<'a>, BuildFault>
     requires { IsPlannable pair.now }
+    ensures pair { IfOk result (λ seen. (plan_of seen).pair ≡ pair.now) }
     ensures seen { IfOk result (IsSeen pair.now stamp (Some kept.now)) }
     ensures shared { kept.now.pair ≡ pair.now → IsOkAnd result IsSharedPlan }
     ensures palette { (result ≡ Err BuildFault.PaletteTarget) ↔ (pair.now.to.desc.palette ≡ true) }

@@ -1,7 +1,7 @@
 ghost use Rattle.std.specs.Prelude.{◌≡◌, ◌<◌, ◌↔◌, true, length, None, IfOk, IfErr, IsOkAnd};
 ghost use Rattle.row_plan.specs.Evaluated.{IsPlannable};
 ghost use Rattle.list_cache.specs.Cells.{cell_numbers, cell_of, known, IsNoteOf, StillKnows, KnowsPair, AgreesOnPlan};
-ghost use Rattle.list_cache.specs.Looks.{IsSeen, IsSharedPlan};
+ghost use Rattle.list_cache.specs.Looks.{plan_of, IsSeen, IsSharedPlan};
 
 use crate::answering::{answer_beside, boxed_plan};
 use crate::cell_note::CellNote;
@@ -59,6 +59,7 @@ impl ListCache {
         requires plannable { IsPlannable pair.now }
         ensures cell { cell_of note.new ≡ cell_of note.old }
         ensures kept { StillKnows (known note.old) (known note.new) }
+        ensures pair { IfOk result (λ seen. (plan_of seen).pair ≡ pair.now) }
         ensures seen { IfOk result (IsSeen pair.now stamp (known note.new)) }
         ensures again { KnowsPair (known note.old) pair.now → IsOkAnd result IsSharedPlan }
         ensures fault { IfErr result (λ _. note.new ≡ note.old) }
