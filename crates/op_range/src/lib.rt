@@ -22,4 +22,4 @@ pub use range::{Ranges, ValueRange};
 pub use state::{CompRange, StateRange, ranges};
 pub use used::{Used, used_before, used_from};
 pub use walk::{ranges_after, start_ranges};
-pub use width::{fits, width_fault};
+pub use width::{Width, fits, whole_width, width_after, width_fault};
