@@ -9,6 +9,7 @@ ghost use Rattle.frame_slices.specs.Workers.{HasWorked};
 
 use super::*;
 use crate::sides::side_of;
+use op_build::BuildFault;
 use pix_io::frame_len;
 use pix_meaning::{Pair, Side};
 use row_plan::plan;
@@ -103,13 +104,19 @@ fn take_turns(
     [zero, one, two]
 }
 
-// The jobs after two hands took turns, with the numbers drawn; nothing where there is no plan.
-fn converted(
+// Three jobs after two hands took turns, with the numbers drawn.
+fn by_two_hands(
     rt: &impl Abort,
     alloc: Global,
-    from: Side,
-    to: Side,
-) -> Result<Option<(Vec<SliceJob>, [u32; 3])>, Fail>
+    plan: &Plan,
+) -> Result<(Vec<SliceJob>, [u32; 3]), Fail> {
+    let jobs = three_jobs(alloc, plan.pair())?;
+    let (board, mut hand) = Board::new(alloc, jobs, 2)?;
+    let numbers = take_turns(rt, &board, &mut hand, plan);
+    Ok((board.close(hand), numbers))
+}
+
+fn plan_of(alloc: Global, from: Side, to: Side) -> Result<Plan, BuildFault>
     requires from { IsTableSide from }
     requires to { IsTableSide to }
 {
@@ -118,19 +125,15 @@ fn converted(
         to,
         dither: 0,
     };
-    let Ok(plan) = plan(alloc, &pair, 0) else {
-        return Ok(None);
-    };
-    let (board, mut hand) = Board::new(alloc, three_jobs(alloc, &pair)?, 2)?;
-    let numbers = take_turns(rt, &board, &mut hand, &plan);
-    Ok(Some((board.close(hand), numbers)))
+    plan(alloc, &pair, 0)
 }
 
 #[test]
 fn two_hands_take_turns(rt: HostRuntime) -> Result<(), Fail> {
     let from = side_of("gray", "bt601").ok_or("gray")?;
     let to = side_of("gray16le", "bt601").ok_or("gray16le")?;
-    let (jobs, numbers) = converted(&rt, rt.alloc(), from, to)?.ok_or("jobs")?;
+    let plan = plan_of(rt.alloc(), from, to).ok().ok_or("a plan")?;
+    let (jobs, numbers) = by_two_hands(&rt, rt.alloc(), &plan)?;
     assert_eq!(rt; numbers, [0, 1, 2]);
     let mut output = Vec::new(rt.alloc());
     for job in jobs {
