@@ -76,6 +76,21 @@ fn find_none(rt: &impl Abort, board: &Board<SliceJob>, hand: &mut Hand<SliceJob>
     }
 }
 
+// The hand's slice is converted, and its share is as it was.
+fn give_back(board: &Board<SliceJob>, hand: &mut Hand<SliceJob>, held: Held<SliceJob>, plan: &Plan)
+    requires own { IsHandOf job_origin board.now hand.old }
+    requires holds { (hand_state hand.old).held ≡ Some held.number }
+    requires not_spent { (hand_state hand.old).spent ≡ false }
+    requires job { IsJobOf job_number job_origin board.now held.number held.job }
+    requires within { held.number < job_count board.now }
+    requires pair { All (BeginsWith plan.now.pair) (origins_of job_origin board.now) }
+    ensures own { IsHandOf job_origin board.now hand.new }
+    ensures share { (hand_state hand.new).share ≡ (hand_state hand.old).share }
+    ensures free { IsFree (hand_state hand.new) }
+{
+    convert_held(board, hand, held, plan);
+}
+
 // Two hands, each of one share, do what workers do. The numbers that they draw, in order.
 fn take_turns(
     rt: &impl Abort,
@@ -93,12 +108,12 @@ fn take_turns(
     let first = draw(rt, board, a);
     let second = draw(rt, board, &mut b);
     let (zero, one) = (first.number(), second.number());
-    convert_held(board, &mut b, second, plan);
+    give_back(board, &mut b, second, plan);
     let third = draw(rt, board, &mut b);
     let two = third.number();
-    convert_held(board, a, first, plan);
+    give_back(board, a, first, plan);
     find_none(rt, board, a);
-    convert_held(board, &mut b, third, plan);
+    give_back(board, &mut b, third, plan);
     find_none(rt, board, &mut b);
     board.join(a, b);
     [zero, one, two]
