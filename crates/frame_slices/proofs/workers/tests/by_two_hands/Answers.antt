@@ -13,8 +13,8 @@ three_jobs-requires-clause-from g c = subst (λ (p : Pair). IsValid p.from.desc)
 pub three_jobs-requires-clause-to : goal.three_jobs-requires-clause-to
 three_jobs-requires-clause-to g c = subst (λ (p : Pair). IsValid p.to.desc) (sym c.pair.ensures.pair) c.args.plan.now.valid.to
 
-pub take_turns-requires-clause-pair : goal.take_turns-requires-clause-pair
-take_turns-requires-clause-pair g c =
+pub take_turns-numbers-requires-clause-pair : goal.take_turns-numbers-requires-clause-pair
+take_turns-numbers-requires-clause-pair g c =
     let origins = origins_of job_origin c.in_ok-board.board in
     let begin = All-map (BeginsWith c.pair.result.now) job_origin c.in_ok-jobs.jobs.items c.in_ok-jobs.ensures.pair in
     subst (λ (p : Pair). All (BeginsWith p) origins) c.pair.ensures.pair
