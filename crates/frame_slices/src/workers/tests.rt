@@ -143,6 +143,15 @@ fn plan_of(alloc: Global, from: Side, to: Side) -> Result<Plan, BuildFault>
     plan(alloc, &pair, 0)
 }
 
+// The outputs of jobs, one behind the other.
+fn outputs(alloc: Global, jobs: Vec<SliceJob>) -> Result<Vec<u8>, AllocError> {
+    let mut output = Vec::new(alloc);
+    for job in jobs {
+        output.extend_from_slice(&job.into_output())?;
+    }
+    Ok(output)
+}
+
 #[test]
 fn two_hands_take_turns(rt: HostRuntime) -> Result<(), Fail> {
     let from = side_of("gray", "bt601").ok_or("gray")?;
@@ -150,10 +159,7 @@ fn two_hands_take_turns(rt: HostRuntime) -> Result<(), Fail> {
     let plan = plan_of(rt.alloc(), from, to).ok().ok_or("a plan")?;
     let (jobs, numbers) = by_two_hands(&rt, rt.alloc(), &plan)?;
     assert_eq!(rt; numbers, [0, 1, 2]);
-    let mut output = Vec::new(rt.alloc());
-    for job in jobs {
-        output.extend_from_slice(&job.into_output())?;
-    }
+    let output = outputs(rt.alloc(), jobs)?;
     assert_eq!(rt; output.as_slice(), [7, 7, 8, 8, 9, 9].as_slice());
     Ok(())
 }
