@@ -2,8 +2,8 @@
 //! them.
 //!
 //! `specs/FrameSlices` says what slices hold and the frames that they make. `SlicedFrame` reads a
-//! source frame straight into its slices, converts them by any number of workers, who claim them one
-//! after the other on a board, and writes the target frame straight from them.
+//! source frame straight into its slices, converts them by any number of workers, who claim them
+//! on a board one after the other, and writes the target frame straight from them.
 #![tactic(auto)]
 
 mod converting;

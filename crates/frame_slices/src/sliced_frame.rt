@@ -122,7 +122,8 @@ impl SlicedFrame {
         requires target { plan.now.pair.to.desc ≡ self.whole.target }
         requires workers { 0 < workers }
         ensures target { IfOk result (λ frame. target_in frame.whole frame.slices.items
-            ≡ target_frame plan.now.pair self.whole.width self.whole.rows (source_in self.whole self.slices.items)) }
+            ≡ target_frame plan.now.pair self.whole.width self.whole.rows
+            (source_in self.whole self.slices.items)) }
         ensures source { IfOk result (λ frame. source_in frame.whole frame.slices.items
             ≡ source_in self.whole self.slices.items) }
         ensures whole { IfOk result (λ frame. frame.whole ≡ self.whole) }

@@ -68,13 +68,15 @@ fn share_out<'a, R: Threads + Sync, G: Gate>(
     join_mut(
         rt,
         &mut ||
-            requires { IsSync R.row × IsHandOf job_origin board.now mine.now × IsFree (hand_state mine.now)
+            requires { IsSync R.row × IsHandOf job_origin board.now mine.now
+                × IsFree (hand_state mine.now)
                 × All (BeginsWith plan.now.pair) (origins_of job_origin board.now) }
             ensures { IsHandOf job_origin board.entry.now mine.exit.now
                 × HasWorked (hand_state mine.entry.now) (hand_state mine.exit.now) }
         { share_out(rt, board, mine, plan, gate) },
         &mut ||
-            requires { IsSync R.row × IsHandOf job_origin board.now theirs.now × IsFree (hand_state theirs.now)
+            requires { IsSync R.row × IsHandOf job_origin board.now theirs.now
+                × IsFree (hand_state theirs.now)
                 × All (BeginsWith plan.now.pair) (origins_of job_origin board.now) }
             ensures { IsHandOf job_origin board.entry.now theirs.exit.now
                 × HasWorked (hand_state theirs.entry.now) (hand_state theirs.exit.now) }

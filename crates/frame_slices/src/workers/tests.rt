@@ -9,6 +9,7 @@ ghost use Rattle.frame_slices.specs.Workers.{HasWorked};
 
 use super::*;
 use crate::sides::side_of;
+use op_build::BuildFault;
 use pix_io::frame_len;
 use pix_meaning::{Pair, Side};
 use row_plan::plan;
@@ -75,6 +76,21 @@ fn find_none(rt: &impl Abort, board: &Board<SliceJob>, hand: &mut Hand<SliceJob>
     }
 }
 
+// The hand's slice is converted, and its share is as it was.
+fn give_back(board: &Board<SliceJob>, hand: &mut Hand<SliceJob>, held: Held<SliceJob>, plan: &Plan)
+    requires own { IsHandOf job_origin board.now hand.old }
+    requires holds { (hand_state hand.old).held ≡ Some held.number }
+    requires not_spent { (hand_state hand.old).spent ≡ false }
+    requires job { IsJobOf job_number job_origin board.now held.number held.job }
+    requires within { held.number < job_count board.now }
+    requires pair { All (BeginsWith plan.now.pair) (origins_of job_origin board.now) }
+    ensures own { IsHandOf job_origin board.now hand.new }
+    ensures share { (hand_state hand.new).share ≡ (hand_state hand.old).share }
+    ensures free { IsFree (hand_state hand.new) }
+{
+    convert_held(board, hand, held, plan);
+}
+
 // Two hands, each of one share, do what workers do. The numbers that they draw, in order.
 fn take_turns(
     rt: &impl Abort,
@@ -92,24 +108,30 @@ fn take_turns(
     let first = draw(rt, board, a);
     let second = draw(rt, board, &mut b);
     let (zero, one) = (first.number(), second.number());
-    convert_held(board, &mut b, second, plan);
+    give_back(board, &mut b, second, plan);
     let third = draw(rt, board, &mut b);
     let two = third.number();
-    convert_held(board, a, first, plan);
+    give_back(board, a, first, plan);
     find_none(rt, board, a);
-    convert_held(board, &mut b, third, plan);
+    give_back(board, &mut b, third, plan);
     find_none(rt, board, &mut b);
     board.join(a, b);
     [zero, one, two]
 }
 
-// The jobs after two hands took turns, with the numbers drawn; nothing where there is no plan.
-fn converted(
+// Three jobs after two hands took turns, with the numbers drawn.
+fn by_two_hands(
     rt: &impl Abort,
     alloc: Global,
-    from: Side,
-    to: Side,
-) -> Result<Option<(Vec<SliceJob>, [u32; 3])>, Fail>
+    plan: &Plan,
+) -> Result<(Vec<SliceJob>, [u32; 3]), Fail> {
+    let jobs = three_jobs(alloc, plan.pair())?;
+    let (board, mut hand) = Board::new(alloc, jobs, 2)?;
+    let numbers = take_turns(rt, &board, &mut hand, plan);
+    Ok((board.close(hand), numbers))
+}
+
+fn plan_of(alloc: Global, from: Side, to: Side) -> Result<Plan, BuildFault>
     requires from { IsTableSide from }
     requires to { IsTableSide to }
 {
@@ -118,24 +140,26 @@ fn converted(
         to,
         dither: 0,
     };
-    let Ok(plan) = plan(alloc, &pair, 0) else {
-        return Ok(None);
-    };
-    let (board, mut hand) = Board::new(alloc, three_jobs(alloc, &pair)?, 2)?;
-    let numbers = take_turns(rt, &board, &mut hand, &plan);
-    Ok(Some((board.close(hand), numbers)))
+    plan(alloc, &pair, 0)
+}
+
+// The outputs of jobs, one behind the other.
+fn outputs(alloc: Global, jobs: Vec<SliceJob>) -> Result<Vec<u8>, AllocError> {
+    let mut output = Vec::new(alloc);
+    for job in jobs {
+        output.extend_from_slice(&job.into_output())?;
+    }
+    Ok(output)
 }
 
 #[test]
 fn two_hands_take_turns(rt: HostRuntime) -> Result<(), Fail> {
     let from = side_of("gray", "bt601").ok_or("gray")?;
     let to = side_of("gray16le", "bt601").ok_or("gray16le")?;
-    let (jobs, numbers) = converted(&rt, rt.alloc(), from, to)?.ok_or("jobs")?;
+    let plan = plan_of(rt.alloc(), from, to).ok().ok_or("a plan")?;
+    let (jobs, numbers) = by_two_hands(&rt, rt.alloc(), &plan)?;
     assert_eq!(rt; numbers, [0, 1, 2]);
-    let mut output = Vec::new(rt.alloc());
-    for job in jobs {
-        output.extend_from_slice(&job.into_output())?;
-    }
+    let output = outputs(rt.alloc(), jobs)?;
     assert_eq!(rt; output.as_slice(), [7, 7, 8, 8, 9, 9].as_slice());
     Ok(())
 }

@@ -1,6 +1,5 @@
-use Rattle.std.proofs.Common.{◌≡◌, ℕ, List, [], length, map, sym, ◌∙◌, ap, subst}
-use Rattle.std.specs.Prelude.{All, slice_index_or}
-use Rattle.std.proofs.lemmas.List.{length-map}
+use Rattle.std.proofs.Common.{◌≡◌, map, sym, ◌∙◌, ap, subst}
+use Rattle.std.specs.Prelude.{All}
 use Rattle.slice_claim.specs.Board.{origins_of}
 use Rattle.row_plan.specs.Jobs.{job_origin, BeginsWith}
 use Rattle.frame_slices.specs.FrameSlices.{IsFor, IsPlace, place_of, origin_for}

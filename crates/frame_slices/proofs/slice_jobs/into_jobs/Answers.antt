@@ -1,6 +1,6 @@
 use Rattle.std.proofs.Common.{◌≡◌, ◌++◌, [], ◌∷◌, length, map, sym, ◌∙◌, ap, ap₂, arith, rules}
 use Rattle.std.proofs.lemmas.List.{map_push, length_push}
-use Rattle.row_plan.specs.Jobs.{job_number, job_origin}
+use Rattle.row_plan.specs.Jobs.{job_origin}
 use Rattle.frame_slices.specs.FrameSlices.{IsFor, place_of, origin_for}
 use Rattle.frame_slices.proofs.ClosedJobs.{first_has, others_have, numbered_more}
 use Rattle.frame_slices.proofs.slice_jobs.into_jobs.Goals as goal

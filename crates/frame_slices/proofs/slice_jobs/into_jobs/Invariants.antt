@@ -1,6 +1,6 @@
 -- The slices so far are jobs.
 use Rattle.std.proofs.Common.{◌≡◌, ◌+◌, ◌≤◌, length, map}
-use Rattle.std.specs.Prelude.{All, vec_len}
+use Rattle.std.specs.Prelude.{All}
 use Rattle.slice_claim.specs.Board.{AreNumbered}
 use Rattle.row_plan.specs.Jobs.{job_number, job_origin}
 use Rattle.frame_slices.specs.FrameSlices.{place_of, IsFor, origin_for}

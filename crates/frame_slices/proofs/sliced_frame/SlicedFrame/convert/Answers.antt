@@ -1,4 +1,4 @@
-use Rattle.std.proofs.Common.{◌≡◌, ◌∙◌, ◌<◌, ◌≤◌, length, map, sym, subst, ap}
+use Rattle.std.proofs.Common.{◌≡◌, ◌∙◌, ◌<◌, ◌≤◌, map, sym, subst, ap}
 use Rattle.std.specs.Prelude.{sum}
 use Rattle.frame_slices.specs.FrameSlices.{place_of, rows_of, places_from}
 use Rattle.frame_slices.proofs.SlicePlanes.{same_places, same_rows, same_length, all_for, behind_same, palette_kept}
