@@ -12,13 +12,14 @@ use Rattle.desc_table.specs.declared.fault.FormatFault.{FormatFault}
 use Rattle.desc_table.specs.Format.{format_count}
 use Rattle.desc_table.specs.Refused.{lookup}
 use Rattle.desc_table.proofs.Lookup.{lookup-Ok}
-use Rattle.sws_words.specs.Given.{form_given, matrix_given, range_given, side_given, source_given, target_given}
-use Rattle.sws_words.specs.Given.{value_of}
+use Rattle.sws_words.specs.Given.{form_given, matrix_given, range_given, side_given, source_given, source_named}
+use Rattle.sws_words.specs.Given.{target_given, value_of}
 use Rattle.sws_words.specs.Options.{CommandOption, is_barred, is_needed, is_stream, option, options}
 use Rattle.sws_words.specs.Values.{form_named, is_frame_size, is_value, number_of, number_within, size_of}
 use Rattle.sws_words.specs.Rules.{bars, conversion_given, either_side, finds, has_fixed_range, has_no_stream_form, has_rgb_range}
-use Rattle.sws_words.specs.Rules.{is_misread, is_missing, is_no_frame, is_stream_format, is_unwanted, lacks, misreads}
-use Rattle.sws_words.specs.Task.{FitsForm, HasName, HasParts, IsConversion, IsFrame, IsSide, IsSource}
+use Rattle.sws_words.specs.Rules.{is_misread, is_missing, is_no_frame, is_stream_format, is_unwanted, lacks, making_given}
+use Rattle.sws_words.specs.Rules.{misreads, sides_given}
+use Rattle.sws_words.specs.Task.{AreSides, FitsForm, HasName, HasParts, IsConversion, IsFrame, IsMaking, IsSide, IsSource}
 use Rattle.sws_words.specs.declared.task.Form.{Form}
 use Rattle.sws_words.specs.declared.task.Form.TheVariants.{Raw, Y4m}
 use Rattle.sws_words.specs.declared.task.Named.{Named}
@@ -189,3 +190,59 @@ sound_conversion given missing unwanted misread frame fixed full form =
       slice_least = (within 1 16384 16 (value_of given (codes "slice")) (omega arith, omega arith)).0;
       slice_most = (within 1 16384 16 (value_of given (codes "slice")) (omega arith, omega arith)).1;
     }
+
+-- ---- tasks on two sides that are named
+
+-- with no form of a source given, the source is named
+named_in : (from name : Option Text) → (is_some from && true) ≡ false
+    → (is_needed UnlessStream (option_map_or form_named from (Some Raw)) && not (is_some name)) ≡ false → is_some name ≡ true
+named_in (Some form) name none needed = cc
+named_in None None none needed = cc
+named_in None (Some text) none needed = refl
+
+pub ops_name_source : (given : List Row) → is_missing given task.Ops ≡ false → is_unwanted given task.Ops ≡ false
+    → is_some (value_of given (codes "in")) ≡ true
+unfolding options is_missing is_unwanted lacks bars
+ops_name_source given missing unwanted =
+    named_in (value_of given (codes "from")) (value_of given (codes "in"))
+    (none_at (bars given task.Ops) options 1 past_the_end unwanted (omega arith))
+    (none_at (lacks given task.Ops) options 4 past_the_end missing (omega arith))
+
+pub making_names_source : (given : List Row) → is_missing given task.Generate ≡ false → is_unwanted given task.Generate ≡ false
+    → is_some (value_of given (codes "in")) ≡ true
+unfolding options is_missing is_unwanted lacks bars
+making_names_source given missing unwanted =
+    named_in (value_of given (codes "from")) (value_of given (codes "in"))
+    (none_at (bars given task.Generate) options 1 past_the_end unwanted (omega arith))
+    (none_at (lacks given task.Generate) options 4 past_the_end missing (omega arith))
+
+-- what holds of the source where it is named
+of_source : (given : List Row) (P : Named → Type 0) (name : Option Text) → is_some name ≡ true → IfSome (source_side given name) P
+    → P (side_given given (unwrap_or name []) (codes "in-matrix") (codes "in-range"))
+of_source given P None named holds = cc
+of_source given P (Some text) named holds = holds
+
+pub sound_sides : (given : List Row) → is_some (value_of given (codes "in")) ≡ true → either_side has_fixed_range given ≡ false
+    → either_side has_rgb_range given ≡ false → AreSides (sides_given given)
+unfolding source_given source_named target_given sides_given
+sound_sides given named fixed full =
+    let sides_fixed = neither_side has_fixed_range (source_given given) (target_given given) fixed in
+    let sides_full = neither_side has_rgb_range (source_given given) (target_given given) full in
+    let name = value_of given (codes "in") in
+    record {
+      source = side_of given (unwrap_or name []) (codes "in-matrix") (codes "in-range")
+          (of_source given (λ side. has_fixed_range side ≡ false) name named sides_fixed.0)
+          (of_source given (λ side. has_rgb_range side ≡ false) name named sides_full.0);
+      target = side_of given _ (codes "out-matrix") (codes "out-range") sides_fixed.1 sides_full.1;
+      dither_most = (within 0 4 0 (value_of given (codes "dither")) (omega arith, omega arith)).1;
+    }
+
+pub sound_making : (given : List Row) → AreSides (sides_given given) → IsMaking (making_given given)
+unfolding making_given
+sound_making given sides = record {
+  sides = sides;
+  workers_least = (within 1 64 1 (value_of given (codes "workers")) (omega arith, omega arith)).0;
+  workers_most = (within 1 64 1 (value_of given (codes "workers")) (omega arith, omega arith)).1;
+  slice_least = (within 1 16384 16 (value_of given (codes "slice")) (omega arith, omega arith)).0;
+  slice_most = (within 1 16384 16 (value_of given (codes "slice")) (omega arith, omega arith)).1;
+}

@@ -55,6 +55,10 @@ side_given given name matrix range = record { format = lookup name; matrix = mat
 unfoldable pub source_given : List Row → Option Named
 source_given given = option_map (λ name. side_given given name (codes "in-matrix") (codes "in-range")) (value_of given (codes "in"))
 
+-- the source of a task that does not read it
+unfoldable pub source_named : List Row → Named
+source_named given = side_given given (unwrap_or (value_of given (codes "in")) []) (codes "in-matrix") (codes "in-range")
+
 -- the target
 unfoldable pub target_given : List Row → Named
 target_given given = side_given given (unwrap_or (value_of given (codes "out")) []) (codes "out-matrix") (codes "out-range")

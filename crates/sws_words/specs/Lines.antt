@@ -83,13 +83,30 @@ stream_task = ask.Convert (record {
   slice = 16;
 })
 
+-- the list of operations from rgb24 to gray
+abbrev pub ops_task : Task
+ops_task = ask.Ops (record { source = plain_side 14; target = plain_side 0; dither = 0 })
+
+-- frames of rgb24 from the seed 7, to gray, by two workers
+abbrev pub making_task : Task
+making_task = ask.Generate (record {
+  sides = record { source = plain_side 14; target = plain_side 0; dither = 0 };
+  workers = 2;
+  slice = 16;
+  seed = 7;
+})
+
 abbrev pub accepted_lines : List String
 accepted_lines =
     "--in rgb24 --out bgr24 --size 2x1"
     ∷ "--size=02x01 --out=bgr24 --in=rgb24 --"
     ∷ "--from y4m --to y4m --out gray"
     ∷ "--task list"
+    ∷ "--task ops --in rgb24 --out gray"
+    ∷ "--task generate --in rgb24 --out gray --seed 7 --workers 2"
     ∷ []
 
 abbrev pub AcceptsEach : Type 0
-AcceptsEach = map meaning accepted_lines ≡ Ok plain_task ∷ Ok plain_task ∷ Ok stream_task ∷ Ok ask.List ∷ []
+AcceptsEach =
+    map meaning accepted_lines
+    ≡ Ok plain_task ∷ Ok plain_task ∷ Ok stream_task ∷ Ok ask.List ∷ Ok ops_task ∷ Ok making_task ∷ []

@@ -1,6 +1,6 @@
 -- The table of options: which tasks have each, when they require it, and which values it takes.
 use Prim.Native.String.{String}
-use Rattle.std.specs.Prelude.{ℕ, Bool, true, false, not, List, [], ◌∷◌, codes, Option, Some, None}
+use Rattle.std.specs.Prelude.{ℕ, Bool, true, false, not, ◌||◌, List, [], ◌∷◌, codes, Option, Some, None}
 use Rattle.sws_words.specs.declared.task.Form.{Form}
 use Rattle.sws_words.specs.declared.task.Form.TheVariants.{Raw, Y4m}
 use Rattle.sws_words.specs.declared.options.TaskName.{TaskName}
@@ -58,10 +58,27 @@ is_makers Pairs = false
 is_makers Workers = false
 is_makers Makers = true
 
+-- whether only tasks that read a stream of frames have it, and whether those on two formats have it
+abbrev pub is_streams : Owners → Bool
+is_streams Every = false
+is_streams Streams = true
+is_streams Pairs = false
+is_streams Workers = false
+is_streams Makers = false
+
+abbrev pub is_pairs : Owners → Bool
+is_pairs Every = false
+is_pairs Streams = false
+is_pairs Pairs = true
+is_pairs Workers = false
+is_pairs Makers = false
+
 -- the options of each task
 abbrev pub has_option : TaskName → Owners → Bool
 has_option task.Convert owners = not (is_makers owners)
 has_option task.List owners = is_every owners
+has_option task.Ops owners = is_every owners || is_pairs owners
+has_option task.Generate owners = not (is_streams owners)
 
 -- whether the source is a YUV4MPEG2 stream, and whether it is raw frames; a form that has no name is neither
 abbrev pub is_stream : Option Form → Bool

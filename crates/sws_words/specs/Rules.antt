@@ -11,15 +11,17 @@ use Rattle.colour_matrix.specs.declared.class.Range.TheVariants.{Full, Limited}
 use Rattle.desc_table.specs.declared.fault.FormatFault.{FormatFault}
 use Rattle.desc_table.specs.Format.{desc_of, name_of}
 use Rattle.sws_words.specs.Command.{given_by, takes_words}
-use Rattle.sws_words.specs.Given.{form_given, matrix_given, number_given, range_given, size_given, source_given, target_given, task_given}
-use Rattle.sws_words.specs.Given.{value_of}
+use Rattle.sws_words.specs.Given.{form_given, matrix_given, number_given, range_given, size_given, source_given, source_named, target_given}
+use Rattle.sws_words.specs.Given.{task_given, value_of}
 use Rattle.sws_words.specs.Options.{CommandOption, has_option, is_barred, is_needed, is_stream, options}
 use Rattle.sws_words.specs.Values.{is_frame_size, is_value}
 use Rattle.sws_words.specs.declared.fault.UsageFault.{UsageFault}
 use Rattle.sws_words.specs.declared.fault.UsageFault.TheVariants as fault
 use Rattle.sws_words.specs.declared.task.Form.TheVariants.{Raw}
 use Rattle.sws_words.specs.declared.task.Convert.{Convert}
+use Rattle.sws_words.specs.declared.task.Generate.{Generate}
 use Rattle.sws_words.specs.declared.task.Named.{Named}
+use Rattle.sws_words.specs.declared.task.Sides.{Sides}
 use Rattle.sws_words.specs.declared.task.Task.{Task}
 use Rattle.sws_words.specs.declared.task.Task.TheVariants as ask
 use Rattle.sws_words.specs.declared.options.TaskName.{TaskName}
@@ -114,10 +116,29 @@ conversion_given given = record {
   slice = unwrap_or (number_given given (codes "slice") 1 16384) 16;
 }
 
+-- the two sides that are named, where no rule is broken
+unfoldable pub sides_given : List Row → Sides
+sides_given given = record {
+  source = source_named given;
+  target = target_given given;
+  dither = unwrap_or (number_given given (codes "dither") 0 4) 0;
+}
+
+-- the frames that are to be made, where no rule is broken
+unfoldable pub making_given : List Row → Generate
+making_given given = record {
+  sides = sides_given given;
+  workers = unwrap_or (number_given given (codes "workers") 1 64) 1;
+  slice = unwrap_or (number_given given (codes "slice") 1 16384) 16;
+  seed = unwrap_or (number_given given (codes "seed") 0 18446744073709551615) 0;
+}
+
 -- the task of a name
 abbrev pub asked : List Row → TaskName → Task
 asked given task.Convert = ask.Convert (conversion_given given)
 asked given task.List = ask.List
+asked given task.Ops = ask.Ops (sides_given given)
+asked given task.Generate = ask.Generate (making_given given)
 
 -- the rules after the task's name is known
 abbrev pub ruled : List Row → TaskName → Result Task UsageFault

@@ -7,7 +7,9 @@ use Rattle.desc_table.specs.Format.{format_count}
 use Rattle.sws_words.specs.Rules.{finds, has_fixed_range, has_rgb_range, is_stream_format}
 use Rattle.sws_words.specs.declared.task.Form.{Form}
 use Rattle.sws_words.specs.declared.task.Form.TheVariants.{Raw, Y4m}
+use Rattle.sws_words.specs.declared.task.Generate.{Generate}
 use Rattle.sws_words.specs.declared.task.Named.{Named}
+use Rattle.sws_words.specs.declared.task.Sides.{Sides}
 use Rattle.sws_words.specs.declared.task.Convert.{Convert}
 use Rattle.sws_words.specs.declared.task.Task.{Task}
 use Rattle.sws_words.specs.declared.task.Task.TheVariants as ask
@@ -63,10 +65,24 @@ pub record IsConversion (conversion : Convert) : Type 0 where
   pub slice_least : 1 ≤ conversion.slice
   pub slice_most : conversion.slice ≤ 16384
 
+pub record AreSides (sides : Sides) : Type 0 where
+  pub source : IsSide sides.source
+  pub target : IsSide sides.target
+  pub dither_most : sides.dither ≤ 4
+
+pub record IsMaking (making : Generate) : Type 0 where
+  pub sides : AreSides making.sides
+  pub workers_least : 1 ≤ making.workers
+  pub workers_most : making.workers ≤ 64
+  pub slice_least : 1 ≤ making.slice
+  pub slice_most : making.slice ≤ 16384
+
 -- what holds of every task that words give
 abbrev pub IsSound : Task → Type 0
 IsSound (ask.Convert conversion) = IsConversion conversion
 IsSound ask.List = Unit {0}
+IsSound (ask.Ops sides) = AreSides sides
+IsSound (ask.Generate making) = IsMaking making
 
 -- words that break a rule end by its fault; of want of memory nothing is said
 abbrev pub EndsBy : Result Task UsageFault → WordsEnd → Type 0

@@ -18,7 +18,9 @@ use Rattle.sws_words.specs.declared.options.Values.TheVariants.{Tasks, Forms, Si
 abbrev pub task_named : List ℕ → Option TaskName
 task_named text =
     if bytes_eq text (codes "convert") then Some task.Convert else (
-    if bytes_eq text (codes "list") then Some task.List else None)
+    if bytes_eq text (codes "list") then Some task.List else (
+    if bytes_eq text (codes "ops") then Some task.Ops else (
+    if bytes_eq text (codes "generate") then Some task.Generate else None)))
 
 -- the forms of streams by name
 abbrev pub form_named : List ℕ → Option Form

@@ -2,7 +2,8 @@
 ghost use Rattle.std.specs.Prelude.{◌≡◌, ◌≤◌, IfSome, option_map};
 ghost use Rattle.sws_words.specs.Given.{given_in, value_of, task_given, form_given, size_given};
 ghost use Rattle.sws_words.specs.Given.{range_given, matrix_given};
-ghost use Rattle.sws_words.specs.Given.{number_given, side_given, source_given, target_given};
+ghost use Rattle.sws_words.specs.Given.{number_given, side_given, source_given, source_named};
+ghost use Rattle.sws_words.specs.Given.{target_given};
 
 use crate::options::TaskName;
 use crate::task::{Form, Named};
@@ -94,6 +95,15 @@ pub fn source(given: &ArgMatches<'_>) -> Option<Named>
 {
     let name = value(given, "in")?;
     Some(side(given, name, "in-matrix", "in-range"))
+}
+
+/// The source of a task that does not read it. Where its format is not named, it finds none.
+#[tactic(auto, unfolding(crate::specs::Given::source_named))]
+pub fn named_source(given: &ArgMatches<'_>) -> Named
+    ensures { result ≡ source_named (given_in given.now) }
+{
+    let name = value(given, "in").unwrap_or("");
+    side(given, name, "in-matrix", "in-range")
 }
 
 /// The target. Where its format is not named, it finds none.

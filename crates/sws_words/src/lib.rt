@@ -13,5 +13,5 @@ mod values;
 mod words;
 
 pub use fault::{UsageFault, WordsEnd};
-pub use task::{Convert, Form, Named, Task};
+pub use task::{Convert, Form, Generate, Named, Sides, Task};
 pub use words::read_words;

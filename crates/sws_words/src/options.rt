@@ -9,6 +9,8 @@ use crate::task::Form;
 pub enum TaskName {
     Convert,
     List,
+    Ops,
+    Generate,
 }
 
 /// Which tasks have an option.
@@ -133,6 +135,8 @@ pub fn has_option(task: TaskName, owners: Owners) -> bool
     match task {
         TaskName::Convert => !matches!(owners, Owners::Makers),
         TaskName::List => matches!(owners, Owners::Every),
+        TaskName::Ops => matches!(owners, Owners::Every | Owners::Pairs),
+        TaskName::Generate => !matches!(owners, Owners::Streams),
     }
 }
 

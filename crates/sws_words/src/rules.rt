@@ -6,13 +6,16 @@ ghost use Rattle.sws_words.specs.Rules.{lacks, bars, misreads, is_missing, is_un
 ghost use Rattle.sws_words.specs.Rules.{is_misread, is_no_frame};
 ghost use Rattle.sws_words.specs.Rules.{has_fixed_range, has_rgb_range, is_stream_format};
 ghost use Rattle.sws_words.specs.Rules.{has_no_stream_form};
-ghost use Rattle.sws_words.specs.Rules.{either_side, conversion_given, task_by};
+ghost use Rattle.sws_words.specs.Rules.{either_side, conversion_given, sides_given};
+ghost use Rattle.sws_words.specs.Rules.{making_given, task_by};
 ghost use Rattle.sws_words.specs.Task.{IsSound};
 
 use crate::fault::UsageFault;
-use crate::given::{form, frame_size, matrix, number, range, source, target, task, value};
+use crate::given::{
+    form, frame_size, matrix, named_source, number, range, source, target, task, value,
+};
 use crate::options::{OptionRow, TaskName, has_option, is_barred, is_needed, options};
-use crate::task::{Convert, Form, Named, Task};
+use crate::task::{Convert, Form, Generate, Named, Sides, Task};
 use crate::values::{is_frame_size, is_value};
 use clap::ArgMatches;
 use colour_matrix::Range;
@@ -184,6 +187,31 @@ fn conversion(given: &ArgMatches<'_>) -> Convert
     }
 }
 
+// The two sides that are named.
+#[tactic(auto, unfolding(crate::specs::Rules::sides_given))]
+fn sides(given: &ArgMatches<'_>) -> Sides
+    ensures { result ≡ sides_given (given_in given.now) }
+{
+    Sides {
+        source: named_source(given),
+        target: target(given),
+        dither: number(given, "dither", 0, 4).unwrap_or(0) as u8,
+    }
+}
+
+// The frames that are to be made.
+#[tactic(auto, unfolding(crate::specs::Rules::making_given))]
+fn making(given: &ArgMatches<'_>) -> Generate
+    ensures { result ≡ making_given (given_in given.now) }
+{
+    Generate {
+        sides: sides(given),
+        workers: number(given, "workers", 1, 64).unwrap_or(1) as u32,
+        slice: number(given, "slice", 1, 16384).unwrap_or(16) as u32,
+        seed: number(given, "seed", 0, 18446744073709551615).unwrap_or(0),
+    }
+}
+
 /// The task that is asked for, or the first rule after the one on the words that is broken.
 #[tactic(auto, unfolding(crate::specs::Rules::task_by))]
 pub fn task_by(given: &ArgMatches<'_>) -> Result<Task, UsageFault>
@@ -217,5 +245,7 @@ pub fn task_by(given: &ArgMatches<'_>) -> Result<Task, UsageFault>
     match asked {
         TaskName::Convert => Ok(Task::Convert(conversion(given))),
         TaskName::List => Ok(Task::List),
+        TaskName::Ops => Ok(Task::Ops(sides(given))),
+        TaskName::Generate => Ok(Task::Generate(making(given))),
     }
 }

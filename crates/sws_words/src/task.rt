@@ -46,6 +46,26 @@ pub struct Convert {
     pub slice: u32,
 }
 
+/// Two sides that the words name, whose frames are no matter of the words.
+#[derive(Clone, Copy, Debug, PartialEq, Eq)]
+pub struct Sides {
+    pub source: Named,
+    pub target: Named,
+    /// The dither number, 0 to 4.
+    pub dither: u8,
+}
+
+/// A conversion of frames that are made from a seed.
+#[derive(Clone, Copy, Debug, PartialEq, Eq)]
+pub struct Generate {
+    pub sides: Sides,
+    /// How many workers, 1 to 64.
+    pub workers: u32,
+    /// Rows a slice, 1 to 16,384.
+    pub slice: u32,
+    pub seed: u64,
+}
+
 /// What the words ask for.
 #[derive(Clone, Copy, Debug, PartialEq, Eq)]
 pub enum Task {
@@ -53,4 +73,8 @@ pub enum Task {
     Convert(Convert),
     /// To list the formats.
     List,
+    /// To show the list of operations of a conversion.
+    Ops(Sides),
+    /// To convert frames that are made from a seed, and to show the sum of the result.
+    Generate(Generate),
 }

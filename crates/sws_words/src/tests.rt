@@ -2,7 +2,7 @@
 use crate::UsageFault::{
     FixedRange, Missing, NotStreamFormat, RgbRange, Size, Unwanted, Value, Words,
 };
-use crate::{Convert, Form, Named, Task, UsageFault, WordsEnd, read_words};
+use crate::{Convert, Form, Generate, Named, Sides, Task, UsageFault, WordsEnd, read_words};
 use colour_matrix::{Matrix, Range, named};
 use desc_table::find;
 use std::alloc::{AllocError, Global};
@@ -59,7 +59,7 @@ fn refuses_words(rt: HostRuntime) -> Result<(), Fail> {
 #[test]
 fn refuses_options(rt: HostRuntime) -> Result<(), Fail> {
     let alloc = rt.alloc();
-    let unknown = ["--task paint", "--task ops", "--task generate", "--task="];
+    let unknown = ["--task paint", "--task Ops", "--task generated", "--task="];
     refuses(&rt, alloc, UsageFault::Task, &unknown)?;
     let missing = [
         "--task convert",
@@ -69,6 +69,10 @@ fn refuses_options(rt: HostRuntime) -> Result<(), Fail> {
         "--from y4m",
         "--from y4m --seed 1",
         "--seed 1 --in gray --size 1x1",
+        "--task ops --in gray",
+        "--task ops --out gray --workers 1",
+        "--task generate --in gray --out gray",
+        "--task generate --in gray --seed 1",
     ];
     refuses(&rt, alloc, Missing, &missing)?;
     let unwanted = [
@@ -79,6 +83,13 @@ fn refuses_options(rt: HostRuntime) -> Result<(), Fail> {
         "--task list --size 1x1",
         "--from y4m --in gray --out gray",
         "--from y4m --size 1x1 --out gray",
+        "--task ops --in gray --out gray --workers 1",
+        "--task ops --in gray --out gray --seed 1",
+        "--task ops --in gray --out gray --size 1x1",
+        "--task ops --in gray --out gray --to raw",
+        "--task ops --from y4m --in gray --out gray --dither 9",
+        "--task generate --in gray --out gray --seed 1 --size 1x1",
+        "--task generate --in gray --out gray --seed x --from raw",
     ];
     refuses(&rt, alloc, Unwanted, &unwanted)?;
     Ok(())
@@ -109,6 +120,9 @@ fn refuses_values(rt: HostRuntime) -> Result<(), Fail> {
         "--in gray --out gray --size 1X1",
         "--in gray --out gray --size 000000000000000000001x1",
         "--in gray --out gray --size 0x0 --dither 9",
+        "--task ops --in gray --out gray --dither 5",
+        "--task generate --in gray --out gray --seed 18446744073709551616",
+        "--task generate --in gray --out gray --seed 1 --workers 0",
     ];
     refuses(&rt, alloc, Value, &values)?;
     let sizes = [
@@ -132,12 +146,14 @@ fn refuses_sides(rt: HostRuntime) -> Result<(), Fail> {
         "--in yuvj444p --out gray --size 1x1 --in-range limited",
         "--in yuvj444p --out rgb24 --size 1x1 --in-range limited --out-range limited",
         "--in rgb24 --out yuvj444p --size 1x1 --in-range limited --out-range limited",
+        "--task ops --in yuvj444p --out gray --in-range limited",
     ];
     refuses(&rt, alloc, FixedRange, &fixed)?;
     let rgb = [
         "--in gray --out rgb24 --size 1x1 --out-range limited",
         "--in pal8 --out gray --size 1x1 --in-range limited",
         "--in gray --out rgb24 --size 1x1 --out-range limited --to y4m",
+        "--task generate --in pal8 --out gray --seed 0 --in-range limited",
     ];
     refuses(&rt, alloc, RgbRange, &rgb)?;
     let forms = [
@@ -258,5 +274,51 @@ fn takes_names_that_find_nothing(rt: HostRuntime) -> Result<(), Fail> {
     expected.target_form = Form::Y4m;
     expected.dither = 4;
     assert_eq!(rt; read(rt.alloc(), line)?, Ok(Task::Convert(expected)));
+    Ok(())
+}
+
+#[test]
+fn takes_tasks_on_two_sides(rt: HostRuntime) -> Result<(), Fail> {
+    let alloc = rt.alloc();
+    let plain = Sides {
+        source: side(&rt, "gray16le", "bt601", None),
+        target: side(&rt, "gray", "bt601", None),
+        dither: 0,
+    };
+    let full = Sides {
+        source: side(&rt, "yuv444p", "bt709", Some(Range::Full)),
+        target: side(&rt, "yuva444p", "fcc", Some(Range::Limited)),
+        dither: 3,
+    };
+    let options = "--in yuv444p --out yuva444p --in-matrix bt709 --out-matrix fcc \
+        --in-range full --out-range limited --dither 3";
+    let small = Generate {
+        sides: plain,
+        workers: 1,
+        slice: 16,
+        seed: 0,
+    };
+    let large = Generate {
+        sides: full,
+        workers: 64,
+        slice: 16384,
+        seed: 18446744073709551615,
+    };
+    let seeded = "--task generate --seed 18446744073709551615 --workers 64 --slice 16384";
+    for (task, more, expected) in [
+        ("--task ops", "--in gray16le --out gray", Task::Ops(plain)),
+        ("--task ops", options, Task::Ops(full)),
+        (
+            "--task=generate --seed=0",
+            "--in gray16le --out gray",
+            Task::Generate(small),
+        ),
+        (seeded, options, Task::Generate(large)),
+    ] {
+        let mut line = String::from_str(alloc, task)?;
+        line.push_str(" ")?;
+        line.push_str(more)?;
+        assert_eq!(rt; read(alloc, line.as_str())?, Ok(expected), "{task}");
+    }
     Ok(())
 }

@@ -15,6 +15,8 @@ pub fn task_named(text: &str) -> Option<TaskName>
     match text {
         "convert" => Some(TaskName::Convert),
         "list" => Some(TaskName::List),
+        "ops" => Some(TaskName::Ops),
+        "generate" => Some(TaskName::Generate),
         _ => None,
     }
 }
