@@ -1,14 +1,15 @@
 // The run over the frames of an input: frame after frame.
-ghost use Rattle.std.specs.Prelude.{◌≡◌, ◌<◌, ◌≤◌, length};
-ghost use Rattle.pix_desc.specs.Frame.{frame_length};
+ghost use Rattle.std.specs.Prelude.{◌<◌};
 ghost use Rattle.sws_run.specs.Ending.{IfOutOfMemory};
 ghost use Rattle.sws_run.specs.Run.{IsComplete};
-ghost use Rattle.sws_run.specs.Frames.{EndsFrames, StopsReading, StopsWriting};
+ghost use Rattle.sws_run.specs.Frames.{EndsFrames, StopsReading, StopsWriting, IsFrameFor, size_by};
 
 use crate::Ended;
 use crate::frame::{Next, is_at_end, read_frame, write_frame};
+use frame_slices::SlicedFrame;
 use pix_io::{Sink, Source};
 use row_plan::Plan;
+use std::thread::Threads;
 use sws_words::Form;
 use y4m_io::LineEnd;
 
@@ -25,33 +26,28 @@ pub struct Converter {
     pub height: u32,
     pub source_form: Form,
     pub target_form: Form,
+    /// How many workers, at least 1.
+    pub workers: u32,
 }
 
-/// Converts the frames of the input one after the other, in a buffer for a source frame and one for
-/// its target frame.
-pub fn convert_frames<In: Source, Out: Sink>(
+/// Converts the frames of the input one after the other, in the slices of one frame.
+pub fn convert_frames<R: Threads + Sync, In: Source, Out: Sink>(
+    rt: &R,
     converter: &Converter,
     input: &mut In,
     output: &mut Out,
-    frame: &mut [u8],
-    target: &mut [u8],
+    frame: &mut SlicedFrame,
 ) -> Ended
-    requires height { converter.now.height ≤ 16384 }
-    requires some { 0 < length frame.old }
-    requires frame { length frame.old ≡ frame_length converter.now.plan.pair.from.desc
-        converter.now.width
-        converter.now.height }
-    requires target { length target.old ≡ frame_length converter.now.plan.pair.to.desc
-        converter.now.width
-        converter.now.height }
-
-    ensures answer { EndsFrames converter.now (length frame.old) (In.shown input.old)
+    requires some { 0 < size_by converter.now }
+    requires frame { IsFrameFor converter.now frame.old.whole }
+    requires workers { 0 < converter.now.workers }
+    ensures answer { EndsFrames converter.now (size_by converter.now) (In.shown input.old)
         (In.shown input.new)
         (Out.shown output.old) (Out.shown output.new) result }
-    ensures read_fault { StopsReading converter.now (length frame.old) (In.shown input.old)
+    ensures read_fault { StopsReading converter.now (size_by converter.now) (In.shown input.old)
         (In.shown input.new)
         (Out.shown output.old) (Out.shown output.new) result }
-    ensures write_fault { StopsWriting converter.now (length frame.old) (In.shown input.old)
+    ensures write_fault { StopsWriting converter.now (size_by converter.now) (In.shown input.old)
         (In.shown input.new)
         (Out.shown output.old) (Out.shown output.new) result }
     ensures memory { IfOutOfMemory result (λ _. ⊥) }
@@ -68,10 +64,8 @@ pub fn convert_frames<In: Source, Out: Sink>(
             },
             Err(LineEnd::ReadFault) => return Ended::ReadFault { frames: done },
         }
-        converter
-            .plan
-            .convert_rows(0, converter.width, converter.height, frame, target);
-        match write_frame(converter.target_form, output, target) {
+        frame.convert(rt, &converter.plan, converter.workers);
+        match write_frame(converter.target_form, output, frame) {
             Ok(()) => {}
             Err(_) => return Ended::WriteFault { frames: done },
         }

@@ -1,0 +1,38 @@
+// Reports: what is put out by a run that reads nothing.
+ghost use Rattle.std.specs.Prelude.{◌≡◌, IfOk, string_bytes};
+ghost use Rattle.sws_run.specs.Report.{report_text, report_frames};
+ghost use Rattle.sws_run.specs.Request.{IsSoundReport};
+
+use crate::format_list::list_text;
+use crate::making::sum_text;
+use crate::planning::plan_of;
+use crate::request::Report;
+use frac_math::OutOfMemory;
+use std::alloc::Global;
+use std::thread::Threads;
+
+/// The text of a report.
+pub fn report_text<R: Threads + Sync>(
+    rt: &R,
+    alloc: Global,
+    report: &Report,
+) -> Result<String, OutOfMemory>
+    requires { IsSoundReport report.now }
+    ensures { IfOk result (λ text. string_bytes text ≡ report_text report.now) }
+{
+    match report {
+        Report::List => list_text(alloc),
+        Report::Ops(_) => Err(OutOfMemory),
+        Report::Generate(making) => sum_text(rt, alloc, making),
+    }
+}
+
+/// How many frames a report is made of.
+pub fn report_frames(report: &Report) -> u32
+    ensures { result ≡ report_frames report.now }
+{
+    match report {
+        Report::List | Report::Ops(_) => 0,
+        Report::Generate(_) => 4,
+    }
+}
