@@ -4,3 +4,4 @@ pub mod ColourLaws
 pub mod ColourRows
 pub mod Coefficients
 pub mod LevelLaws
+pub mod SameMatrices

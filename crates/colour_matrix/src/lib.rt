@@ -7,9 +7,11 @@ mod class;
 mod level_table;
 mod matrix;
 mod ratio;
+mod same;
 #[cfg(test)]
 mod tests;
 
 pub use class::{Class, Levels, Range};
 pub use level_table::levels;
 pub use matrix::{Matrix, from_rgb, named, to_rgb};
+pub use same::{same_matrix, same_range};

@@ -36,12 +36,12 @@ use Rattle.op_range.proofs.FractionBoundSteps.{of_four, run_there}
 use Rattle.op_build.proofs.BoundClasses.{classes_fit}
 
 -- ---- what a true test gives
-every_one : {A : Type 0} (f : A → Bool) (xs : List A) (x : A) → list_all f xs ≡ true → IsOneOf x xs → f x ≡ true
+pub every_one : {A : Type 0} (f : A → Bool) (xs : List A) (x : A) → list_all f xs ≡ true → IsOneOf x xs → f x ≡ true
 every_one f [] x h p = absurd p
 every_one f (y ∷ ys) x h (inl e) = ap f e ∙ (and_parts (f y) (list_all f ys) h).0
 every_one f (y ∷ ys) x h (inr p) = every_one f ys x (and_parts (f y) (list_all f ys) h).1 p
 
-then_there : {A P : Type 0} (o : Option A) (f : A → Bool) → test_then o f ≡ true → ((x : A) → o ≡ Some x → f x ≡ true → P) → P
+pub then_there : {A P : Type 0} (o : Option A) (f : A → Bool) → test_then o f ≡ true → ((x : A) → o ≡ Some x → f x ≡ true → P) → P
 then_there None f h use_it = absurd (cc)
 then_there (Some x) f h use_it = use_it x refl h
 
@@ -96,7 +96,7 @@ end_there op k greatest least bounds codes last h p q =
     ∙ limits_there greatest least last
 
 -- ---- the list of two classes
-abbrev class_list : SideClass → SideClass → ℕ → List (Option ℚ) → List (Option ℚ) → List Op
+abbrev pub class_list : SideClass → SideClass → ℕ → List (Option ℚ) → List (Option ℚ) → List Op
 class_list from to k greatest least =
     source_ops from ++ (target_rows_ops to ++ to_codes_by (class_levels to) ∷ Dither k ∷ Max greatest ∷ Min least ∷ [])
 
@@ -145,10 +145,10 @@ unfolding levels
 target_same true depths range matrix ops = refl
 target_same false depths range matrix ops = refl
 
-abbrev least_limits : Pair → List (Option ℚ)
+abbrev pub least_limits : Pair → List (Option ℚ)
 least_limits pair = limits pair.to.desc (λ c. nat 0)
 
-abbrev greatest_limits : Pair → List (Option ℚ)
+abbrev pub greatest_limits : Pair → List (Option ℚ)
 greatest_limits pair = limits pair.to.desc (λ c. nat (2 ^ channel_depth pair.to.desc c - 1))
 
 from_raw : (side : Side) → from_codes side ≡ from_codes_by (class_levels (raw_class side))
@@ -181,7 +181,7 @@ convert_raw pair =
     ∙ ap (λ op. Convert Rat Bool.false ∷ (source_ops (raw_class pair.from) ++ (target_rows_ops (raw_class pair.to) ++ op ∷ tail)))
     (to_raw pair.to)
 
-convert_classes : (pair : Pair)
+pub convert_classes : (pair : Pair)
     → convert pair
     ≡ Convert Rat Bool.false ∷ class_list (side_class pair.from) (side_class pair.to) pair.dither (least_limits pair) (greatest_limits pair)
 convert_classes pair =

@@ -63,7 +63,7 @@ encode_unchecked desc =
     (component_of desc 0).shift (spare_zeros desc)
 
 -- ---- the whole list, where decoding gives codes below 2 to the depths
-recipe_parts : (pair : Pair) → recipe pair ≡ decode pair.from.desc ++ (convert pair ++ encode pair.to.desc)
+pub recipe_parts : (pair : Pair) → recipe pair ≡ decode pair.from.desc ++ (convert pair ++ encode pair.to.desc)
 unfolding recipe
 recipe_parts pair = append_assoc (decode pair.from.desc) (convert pair) (encode pair.to.desc)
 

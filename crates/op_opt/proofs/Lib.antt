@@ -30,3 +30,4 @@ pub mod PeakTrims
 pub mod PeakResets
 pub mod PeakJoins
 pub mod PeakLaws
+pub mod PeakBounds

@@ -89,7 +89,7 @@ pub record Narrows (stage : Stage) (ops after : List Op) : Type 0 where
   pub peak : (s t : Peaked) → are_typed stage ops ≡ true → 0 < s.width.denominator → 0 < t.width.denominator
       → (is_rational stage ≡ true → Below (used_from ops) s t) → peak_from stage after s ≤ max (2 ^ 32) (peak_from stage ops t)
 
-no_more : (a f b d e : ℕ) → d * f ≡ e → 0 < e → a * f ≤ b → a ≤ b
+pub no_more : (a f b d e : ℕ) → d * f ≡ e → 0 < e → a * f ≤ b → a ≤ b
 no_more a zero b d e is p h = absurd (omega (arith, is, p))
 no_more a (suc f) b d e is p h = let more : a * suc f ≡ a * f + a = omega arith in omega (arith, more, h)
 
@@ -107,7 +107,7 @@ used_behind : (op : Op) (ops after : List Op) → IsPart (used_from after) (used
 unfolding used_from
 used_behind op ops after part = used_part op (used_from after) (used_from ops) part
 
-next_positive : (stage : Stage) (op : Op) (used : List Bool) (s : Peaked) → 0 < s.width.denominator
+pub next_positive : (stage : Stage) (op : Op) (used : List Bool) (s : Peaked) → 0 < s.width.denominator
     → 0 < (peaked_after stage op used s).width.denominator
 unfolding peaked_after
 next_positive stage op used s p = after_positive stage op s.width p

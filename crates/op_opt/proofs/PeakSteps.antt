@@ -4,6 +4,7 @@ use Rattle.std.proofs.Common.{All, nat_eq, nat_lt, eq-eqb, ltb-true, max, subst,
 use Rattle.std.specs.Prelude.{Option, Some, None, slice_index, unsigned_abs}
 use Rattle.std.proofs.lemmas.Bool.{and_from}
 use Rattle.std.proofs.Math.Nat.{div-mul_cancel, dvd-mul_right, mul-le-mul_right, mul-le-mul_left, zero-mul}
+use Rattle.std.proofs.lemmas.Nat.Gcd.{dvd_refl}
 use Prim.Native.Nat.{◌∣◌}
 use native.Mathlib.Nat.{eq_of_mul-eq-mul_right}
 use Rattle.frac_math.specs.Fraction.{ℚ, nat, equal_ℚ}
@@ -28,7 +29,7 @@ use Rattle.op_range.proofs.FractionBounds.{factor_positive}
 use Rattle.op_range.proofs.AnyOfFour.{any_from}
 use Rattle.op_range.proofs.UsedSteps.{index_below}
 use Rattle.op_opt.specs.Peak.{Peaked, greatest_of_four, given_size, fractions_peak, peaked_after}
-use Rattle.op_opt.proofs.PeakMultiples.{least_multiple, multiple_right}
+use Rattle.op_opt.proofs.PeakMultiples.{divides_on, least_multiple, multiple_right}
 
 -- ---- one state not above another
 -- what is used after one is used after the other
@@ -168,24 +169,24 @@ scale_below by less used s t b =
     (times s.peak b.ratio t.peak (max (unsigned_abs by.numerator) by.denominator) b.peak)
 
 -- ---- Dither
-pub record Ratio (d e p f : ℕ) : Type 0 where
+pub record Ratio (d e p q f : ℕ) : Type 0 where
   pub ratio : ℕ
-  pub whole : d * factor d p * ratio ≡ e * factor e p
-  pub factors : factor d p * ratio ≡ f * factor e p
+  pub whole : d * factor d p * ratio ≡ e * factor e q
+  pub factors : factor d p * ratio ≡ f * factor e q
 
-ratio_of : (d e p f : ℕ) → 0 < d → 0 < e → 0 < p → d * f ≡ e → Ratio d e p f
-ratio_of d e p f some more positive is =
-    let total = e * factor e p in
-    let regroup : d * (f * factor e p) ≡ total = omega (arith, ap (λ x. x * factor e p) is) in
-    let over : d ∣ total = subst (λ (k : ℕ). d ∣ k) regroup (dvd-mul_right d (f * factor e p)) in
-    let into = least_multiple d p total some positive (product_positive e (factor e p) more (factor_positive e p positive)) over
-    (multiple_right e p) in
+ratio_of : (d e p q f : ℕ) → 0 < d → 0 < e → 0 < p → 0 < q → p ∣ q → d * f ≡ e → Ratio d e p q f
+ratio_of d e p q f some more positive other into_q is =
+    let total = e * factor e q in
+    let regroup : d * (f * factor e q) ≡ total = omega (arith, ap (λ x. x * factor e q) is) in
+    let over : d ∣ total = subst (λ (k : ℕ). d ∣ k) regroup (dvd-mul_right d (f * factor e q)) in
+    let into = least_multiple d p total some positive (product_positive e (factor e q) more (factor_positive e q other)) over
+    (divides_on p q total into_q (multiple_right e q)) in
     let g = total / (d * factor d p) in
     let back : g * (d * factor d p) ≡ total = div-mul_cancel (d * factor d p) into in
     record {
       ratio = g;
       whole = omega (arith, back);
-      factors = eq_of_mul-eq-mul_right d some (factor d p * g) (f * factor e p) (omega (arith, back, regroup));
+      factors = eq_of_mul-eq-mul_right d some (factor d p * g) (f * factor e q) (omega (arith, back, regroup));
     }
 
 dithered : (n d h g f m e l : ℕ) → n * f ≤ m → d * h * g ≡ e * l → h * g ≡ f * l → (n * h + d * h) * g ≤ m * l + e * l
@@ -194,19 +195,21 @@ dithered n d h g f m e l le whole factors = omega (arith, ap (λ x. n * x) facto
 power_positive : (k : ℕ) → 0 < 2 * 4 ^ k
 power_positive k = omega (arith, index_number_below k 0 0)
 
-dither_below : (k : ℕ) (less used : List Bool) (s t : Peaked) → 0 < s.width.denominator → 0 < t.width.denominator → Below used s t
-    → Below used (fractions_after (Dither k) less s) (fractions_after (Dither k) used t)
+-- also where the places of the first are among those of the second
+pub dithers_below : (k l : ℕ) (less used : List Bool) (s t : Peaked) → 2 * 4 ^ k ∣ 2 * 4 ^ l → 0 < s.width.denominator
+    → 0 < t.width.denominator → Below used s t → Below used (fractions_after (Dither k) less s) (fractions_after (Dither l) used t)
 unfolding fractions_width fractions_peak
-dither_below k less used s t some more b =
+dithers_below k l less used s t places some more b =
     let p = 2 * 4 ^ k in
+    let q = 2 * 4 ^ l in
     let d = s.width.denominator in
     let e = t.width.denominator in
-    let r = ratio_of d e p b.ratio some more (power_positive k) b.denominator in
-    below_of used r.ratio (d * factor d p) (e * factor e p) (λ i. size_in s.width i * factor d p + d * factor d p)
-    (λ i. size_in t.width i * factor e p + e * factor e p) _ _ r.whole
-    (λ i below u. dithered (size_in s.width i) d (factor d p) r.ratio b.ratio (size_in t.width i) e (factor e p)
+    let r = ratio_of d e p q b.ratio some more (power_positive k) (power_positive l) places b.denominator in
+    below_of used r.ratio (d * factor d p) (e * factor e q) (λ i. size_in s.width i * factor d p + d * factor d p)
+    (λ i. size_in t.width i * factor e q + e * factor e q) _ _ r.whole
+    (λ i below u. dithered (size_in s.width i) d (factor d p) r.ratio b.ratio (size_in t.width i) e (factor e q)
     (b.sizes i below u) r.whole r.factors)
-    (dithered s.peak d (factor d p) r.ratio b.ratio t.peak e (factor e p) b.peak r.whole r.factors)
+    (dithered s.peak d (factor d p) r.ratio b.ratio t.peak e (factor e q) b.peak r.whole r.factors)
 
 -- ---- entries
 pub cleared_below : (c d f e : ℕ) (given : Option ℚ) (n m : ℕ) → d * f ≡ e → (is_missing given ≡ true → n * f ≤ m)
@@ -298,7 +301,7 @@ ops_below stage (LeftShift k) less used s t r f g p q part b n = b
 ops_below stage (RightShift k) less used s t r f g p q part b n = b
 ops_below stage (Swizzle from) less used s t r f g p q part b n = swizzle_below from less used s t (swizzle_lanes stage from g) b
 ops_below stage (Convert to expand) less used s t r f g p q part b n = b
-ops_below stage (Dither k) less used s t r f g p q part b n = dither_below k less used s t p q b
+ops_below stage (Dither k) less used s t r f g p q part b n = dithers_below k k less used s t (dvd_refl (2 * 4 ^ k)) p q b
 ops_below stage (Linear rows) less used s t r f g p q part b n = linear_below rows less used s t part b
 ops_below stage (Scale by) less used s t r f g p q part b n = scale_below by less used s t b
 ops_below stage (Min limits) less used s t r f g p q part b n = min_below limits less used s t b

@@ -28,3 +28,4 @@ pub mod FieldSteps
 pub mod SlotSearch
 pub mod PixelSlots
 pub mod SlotsHeld
+pub mod SameDescriptors

@@ -7,6 +7,7 @@
 mod channel;
 pub mod laws;
 mod pair;
+mod same;
 mod side_levels;
 #[cfg(test)]
 mod tests;
@@ -14,5 +15,6 @@ mod valid;
 
 pub use channel::{channel_depth, channel_of, component_at, depth_of, has_channel, is_rgb};
 pub use pair::{Pair, Side};
+pub use same::same_pair;
 pub use side_levels::channel_levels;
 pub use valid::pair_valid;

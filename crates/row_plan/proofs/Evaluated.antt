@@ -1,52 +1,61 @@
--- The checked evaluation of every pair of formats of the table has an answer at every pixel.
-use Rattle.std.proofs.Common.{◌≡◌, ℕ, ◌<◌, ◌≤◌, sym, ◌∙◌, ap, subst}
-use Rattle.colour_matrix.specs.declared.class.Range.{Range}
-use Rattle.colour_matrix.specs.declared.matrix.Matrix.{Matrix}
-use Rattle.desc_table.specs.Format.{format_count}
+-- Every pair of formats of the table fits, and so has a plan.
+use Rattle.std.proofs.Common.{◌≡◌, ◌≤◌, sym, ap, subst, arith}
 use Rattle.desc_table.proofs.Rows.{valid_at}
 use Rattle.pix_desc.specs.declared.desc.Desc.{Desc}
+use Rattle.pix_desc.specs.Layouts.{IsValid}
 use Rattle.pix_meaning.specs.declared.pair.Side.{Side}
 use Rattle.pix_meaning.specs.declared.pair.Pair.{Pair}
-use Rattle.pix_meaning.specs.Pairs.{IsValidPair}
+use Rattle.pix_meaning.specs.Pairs.{IsValidPair, is_rgb}
+use Rattle.op_list.specs.Types.{bits}
+use Rattle.op_opt.proofs.PeakLaws.{normal_narrow}
+use Rattle.op_build.specs.Codes.{decoded_type}
+use Rattle.op_build.specs.Recipe.{recipe}
+use Rattle.op_build.specs.SideClasses.{side_class, side_classes, IsOneOf}
 use Rattle.op_build.proofs.BoundFrames.{checked_is_there}
-use Rattle.row_plan.specs.Evaluated.{IsNamed, IsEvaluated, side_at, IsTableSide, TablePairsHavePlans}
+use Rattle.op_build.proofs.Frames.{is_whole}
+use Rattle.op_build.proofs.RecipeTyped.{recipe_is_list}
+use Rattle.row_plan.specs.Evaluated.{side_at, IsTableSide, TablePairsFit, TablePairsHavePlans}
 use Rattle.row_plan.proofs.NamedMatrices.{named_is_matrix}
-use Rattle.row_plan.proofs.TableClasses.{side_at_there}
+use Rattle.row_plan.proofs.TableClasses.{side_at_there, few_bits_at}
+use Rattle.row_plan.proofs.PeakTests.{bits_of}
+use Rattle.row_plan.proofs.PeakPairs.{recipe_is_low}
 
-pub valid_pair_at : (from to dither : ℕ) (from_matrix to_matrix : Matrix) (from_range to_range : Range)
-    → from < format_count → to < format_count → IsNamed from_matrix → IsNamed to_matrix → dither ≤ 4
-    → IsValidPair (record { from = side_at from from_matrix from_range; to = side_at to to_matrix to_range; dither = dither })
-valid_pair_at from to dither from_matrix to_matrix from_range to_range from_below to_below from_named to_named small = record {
-  from = valid_at from from_below;
-  to = valid_at to to_below;
-  from_matrix = named_is_matrix from_matrix from_named;
-  to_matrix = named_is_matrix to_matrix to_named;
-  dither = small;
-}
+-- ---- a side of the table, by its row
+valid_side : (side : Side) (is : IsTableSide side) → IsValid side.desc
+valid_side side is = subst IsValid (sym is.desc) (valid_at is.id is.known)
 
-pub evaluated : (from to dither : ℕ) (from_matrix to_matrix : Matrix) (from_range to_range : Range)
-    → from < format_count → to < format_count → IsNamed from_matrix → IsNamed to_matrix → dither ≤ 4
-    → IsEvaluated (record { from = side_at from from_matrix from_range; to = side_at to to_matrix to_range; dither = dither })
-evaluated from to dither from_matrix to_matrix from_range to_range from_below to_below from_named to_named small =
-    checked_is_there (record { from = side_at from from_matrix from_range; to = side_at to to_matrix to_range; dither = dither })
-    (valid_pair_at from to dither from_matrix to_matrix from_range to_range from_below to_below from_named to_named small)
-    (side_at_there from from_matrix from_range from_below from_named) (side_at_there to to_matrix to_range to_below to_named)
-
--- a side of the table in terms of its row
 side_is : (side : Side) (is : IsTableSide side) → side_at is.id side.matrix side.range ≡ side
 side_is side is =
     ap (λ (desc : Desc). let with_desc : Side = record { desc = desc; matrix = side.matrix; range = side.range } in with_desc) (sym is.desc)
 
+listed_side : (side : Side) (is : IsTableSide side) → IsOneOf (side_class side) side_classes
+listed_side side is =
+    subst (λ (s : Side). IsOneOf (side_class s) side_classes) (side_is side is)
+    (side_at_there is.id side.matrix side.range is.known is.matrix)
+
+few_bits : (side : Side) (is : IsTableSide side) → bits (decoded_type side.desc) ≤ bits_of (is_rgb side.desc)
+few_bits side is = subst (λ (desc : Desc). bits (decoded_type desc) ≤ bits_of (is_rgb desc)) (sym is.desc) (few_bits_at is.id is.known)
+
+-- ---- pairs
+valid_pair : (pair : Pair) → IsTableSide pair.from → IsTableSide pair.to → pair.dither ≤ 4 → IsValidPair pair
+valid_pair pair from to small = record {
+  from = valid_side pair.from from;
+  to = valid_side pair.to to;
+  from_matrix = named_is_matrix pair.from.matrix from.matrix;
+  to_matrix = named_is_matrix pair.to.matrix to.matrix;
+  dither = small;
+}
+
+-- the normal list is at most as wide as the peak of the recipe
+pub table_pairs_fit : TablePairsFit
+table_pairs_fit pair from to small =
+    let valid = valid_pair pair from to small in
+    let listed = listed_side pair.from from in
+    let other = listed_side pair.to to in
+    let wide = normal_narrow (recipe pair) (recipe_is_list pair valid) (is_whole pair) in
+    let low = recipe_is_low pair valid listed other (few_bits pair.from from) in
+    record { evaluated = checked_is_there pair valid listed other; narrow = omega (arith, wide, low) }
+
 pub table_pairs_have_plans : TablePairsHavePlans
 table_pairs_have_plans pair from to small =
-    let at = λ (a b : Side). let both : Pair = record { from = a; to = b; dither = pair.dither } in both in
-    let is : at (side_at from.id pair.from.matrix pair.from.range) (side_at to.id pair.to.matrix pair.to.range) ≡ pair =
-    ap (λ a. at a (side_at to.id pair.to.matrix pair.to.range)) (side_is pair.from from) ∙ ap (at pair.from) (side_is pair.to to) in
-    record {
-      valid = subst IsValidPair is
-          (valid_pair_at from.id to.id pair.dither pair.from.matrix pair.to.matrix pair.from.range pair.to.range from.known to.known
-          from.matrix to.matrix small);
-      evaluated = λ _. subst IsEvaluated is
-          (evaluated from.id to.id pair.dither pair.from.matrix pair.to.matrix pair.from.range pair.to.range from.known to.known from.matrix
-          to.matrix small);
-    }
+    record { valid = valid_pair pair from to small; fits = λ _. table_pairs_fit pair from to small }

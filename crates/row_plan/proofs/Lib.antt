@@ -4,6 +4,9 @@ pub mod Members
 pub mod NamedMatrices
 pub mod TableClasses
 pub mod Evaluated
+pub mod PeakTests
+pub mod PeakClasses
+pub mod PeakPairs
 pub mod Written
 pub mod ConvertedPixels
 pub mod ConvertedRows

@@ -12,7 +12,7 @@ pub planned : (plan : Plan) (elem : PixType) (planes : List ℕ) → elem ≡ el
 planned plan elem planes elem_is planes_are = record {
   valid = plan.valid;
   plain = plan.plain;
-  evaluated = plan.evaluated;
+  evaluated = plan.fits.evaluated;
   elem_is = elem_is;
   planes_are = planes_are;
 }

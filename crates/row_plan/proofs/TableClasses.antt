@@ -1,6 +1,7 @@
 -- Each side of a row of the table is of a class of the bounds.
-use Rattle.std.proofs.Common.{◌≡◌, ◌<◌, ℕ, Bool, true, false, inl, inr, List, [], ◌∷◌, map, refl, sym, ap, subst}
+use Rattle.std.proofs.Common.{◌≡◌, ◌<◌, ◌≤◌, nat_le, ℕ, Bool, true, false, inl, inr, List, [], ◌∷◌, map, refl, sym, ap, subst}
 use Rattle.std.specs.List.{list_any}
+use Rattle.std.proofs.lemmas.Bool.{leb-true}
 use Rattle.std.specs.Str.{bytes_eq}
 use Rattle.std.proofs.lemmas.Slice.Eq.{bytes_eq-Decides}
 use Rattle.colour_matrix.specs.declared.class.Range.{Range}
@@ -8,15 +9,20 @@ use Rattle.colour_matrix.specs.declared.class.Range.TheVariants.{Full, Limited}
 use Rattle.colour_matrix.specs.declared.matrix.Matrix.{Matrix}
 use Rattle.colour_matrix.specs.Matrix.{bt601}
 use Rattle.pix_desc.specs.declared.desc.Desc.{Desc}
+use Rattle.pix_desc.specs.Shape.{element_bytes}
 use Rattle.pix_meaning.specs.Pairs.{is_rgb}
 use Rattle.desc_table.specs.Format.{formats, format_count, desc_of}
 use Rattle.desc_table.proofs.Rows.{agree_at_row}
+use Rattle.op_list.specs.Types.{bits}
 use Rattle.op_list.specs.Values.{four}
 use Rattle.pix_meaning.specs.Channels.{channel_depth}
+use Rattle.op_build.specs.ElementType.{element_type}
+use Rattle.op_build.specs.Codes.{decoded_type}
 use Rattle.op_build.specs.SideClasses.{SideClass, side_class_of, side_class, for_each, named_matrices, rgb_depths, yuv_depths, rgb_classes, yuv_classes, side_classes, IsOneOf}
 use Rattle.row_plan.specs.Evaluated.{IsNamed, side_at}
 use Rattle.row_plan.proofs.Members.{in_first, in_second, in_each, found_one}
 use Rattle.row_plan.proofs.NamedMatrices.{listed_matrix}
+use Rattle.row_plan.proofs.PeakTests.{bits_of}
 
 -- ---- the kinds of formats: whether they are of red, green and blue, and the depths of their channels
 
@@ -83,3 +89,14 @@ pub side_at_there : (id : ℕ) (matrix : Matrix) (range : Range) → id < format
 side_at_there id matrix range below named =
     class_there (is_rgb (desc_of id)) (four (λ c. channel_depth (desc_of id) c)) range matrix (kind_at id below)
     (listed_matrix matrix named)
+
+-- ---- only red, green and blue are read from words of 32 bits
+bits_computed : map (λ format. nat_le (bits (decoded_type format.desc)) (bits_of (is_rgb format.desc))) formats
+    ≡ map (λ format. true) formats
+unfolding formats element_type element_bytes
+bits_computed = refl
+
+pub few_bits_at : (id : ℕ) → id < format_count → bits (decoded_type (desc_of id)) ≤ bits_of (is_rgb (desc_of id))
+few_bits_at id below =
+    leb-true _ _ (agree_at_row (λ format. nat_le (bits (decoded_type format.desc)) (bits_of (is_rgb format.desc))) (λ format. true)
+    bits_computed id below)

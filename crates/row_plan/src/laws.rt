@@ -1,26 +1,17 @@
 // The laws on pairs and on slices, each the contract of a function.
-ghost use Rattle.std.specs.Prelude.{◌<◌, ◌≤◌, ℕ, List};
-ghost use Rattle.colour_matrix.specs.declared.class.Range.{Range};
-ghost use Rattle.colour_matrix.specs.declared.matrix.Matrix.{Matrix};
-ghost use Rattle.desc_table.specs.Format.{format_count};
+ghost use Rattle.std.specs.Prelude.{ℕ, List};
 ghost use Rattle.pix_meaning.specs.declared.pair.Pair.{Pair};
-ghost use Rattle.row_plan.specs.Evaluated.{IsNamed, IsEvaluated, TablePairsHavePlans, side_at};
+ghost use Rattle.row_plan.specs.Evaluated.{TablePairsFit, TablePairsHavePlans};
 ghost use Rattle.row_plan.specs.PackedRgb.{ArePackedFormats, CopiesPacked};
 ghost use Rattle.row_plan.specs.Slices.{SlicesAreFrames, SlicesMakeFrame, TargetOfSlice, TargetsMakeFrame, WorkedSlices};
 
 use crate::plans::Plan;
 
-/// Between any two formats of the table, with any of the five named matrices and both ranges on
-/// either side, and any dither, the numbers of every pixel's fractions fit 128 bits.
-pub fn every_pair_is_evaluated()
-    ensures { (from to dither : ℕ) (from_matrix to_matrix : Matrix) (from_range to_range : Range)
-        → from < format_count → to < format_count → IsNamed from_matrix → IsNamed to_matrix
-        → dither ≤ 4
-        → IsEvaluated (record {
-          from = side_at from from_matrix from_range;
-          to = side_at to to_matrix to_range;
-          dither = dither;
-        }) }
+/// Every pair of two sides of the table with named matrices, any ranges and any dither fits: the
+/// numbers of the evaluation fit 128 bits at every pixel, and those of its normal list, over a
+/// common denominator, are below 2^126.
+pub fn every_pair_fits()
+    ensures { TablePairsFit }
 {}
 
 /// Every pair of two sides of the table with named matrices has a plan, where its target is no

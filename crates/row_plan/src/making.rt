@@ -1,21 +1,61 @@
 // How a plan is made.
-ghost use Rattle.std.specs.Prelude.{◌≡◌, ◌↔◌, true, IfOk};
+ghost use Rattle.std.specs.Prelude.{◌≡◌, ◌↔◌, true, false, IfOk, IfErr, string_bytes};
+ghost use Rattle.pix_meaning.specs.Pairs.{IsValidPair};
+ghost use Rattle.op_build.specs.Recipe.{recipe};
+ghost use Rattle.op_opt.specs.Normal.{normal};
+ghost use Rattle.op_text.specs.Line.{text_of};
 ghost use Rattle.row_plan.specs.Evaluated.{IsPlannable};
 
 use crate::plans::Plan;
 use op_build::{BuildFault, build};
+use op_opt::{NormalList, optimise};
+use op_text::print;
 use pix_meaning::Pair;
 use std::alloc::Global;
 
-/// The plan of a pair that is valid, and whose numbers fit 128 bits at every pixel where its target
-/// is no palette format: every pair of the table with named matrices is such a one
-/// (`laws::table_pairs_have_plans`). PaletteTarget comes exactly where the target is a palette
+// The normal list of a pair's recipe.
+fn optimised(alloc: Global, pair: &Pair) -> Result<NormalList, BuildFault>
+    requires valid { IsValidPair pair.now }
+    requires plain { pair.now.to.desc.palette ≡ false }
+    ensures ok { IfOk result (λ list. list ≡ normal (recipe pair.now)) }
+    ensures fault { IfErr result (λ fault. fault ≡ BuildFault.OutOfMemory) }
+{
+    match optimise(alloc, build(alloc, pair)?) {
+        Ok(list) => Ok(list),
+        Err(_) => Err(BuildFault::OutOfMemory),
+    }
+}
+
+// The text of a normal list.
+fn text_of(alloc: Global, list: &NormalList) -> Result<String, BuildFault>
+    ensures ok { IfOk result (λ text. string_bytes text ≡ text_of list.now) }
+    ensures fault { IfErr result (λ fault. fault ≡ BuildFault.OutOfMemory) }
+{
+    match print(alloc, list.list()) {
+        Ok(text) => Ok(text),
+        Err(_) => Err(BuildFault::OutOfMemory),
+    }
+}
+
+/// The plan of a pair that is valid, and fits where its target is no palette format: every pair of
+/// the table with named matrices is such a one (`laws::table_pairs_have_plans`). PaletteTarget comes exactly where the target is a palette
 /// format, and OutOfMemory where an allocation is refused.
-pub fn plan(alloc: Global, pair: &Pair) -> Result<Plan, BuildFault>
+pub fn plan(alloc: Global, pair: &Pair, stamp: u64) -> Result<Plan, BuildFault>
     requires { IsPlannable pair.now }
     ensures pair { IfOk result (λ plan. plan.pair ≡ pair.now) }
+    ensures stamp { IfOk result (λ plan. plan.stamp ≡ stamp) }
+    ensures text { IfOk result
+        (λ plan. string_bytes plan.text ≡ text_of (normal (recipe pair.now))) }
     ensures palette { (result ≡ Err BuildFault.PaletteTarget) ↔ (pair.now.to.desc.palette ≡ true) }
 {
     let list = build(alloc, pair)?;
-    Ok(Plan { pair: *pair, list })
+    let optimised = optimised(alloc, pair)?;
+    let text = text_of(alloc, &optimised)?;
+    Ok(Plan {
+        pair: *pair,
+        stamp,
+        list,
+        optimised,
+        text,
+    })
 }

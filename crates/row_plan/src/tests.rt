@@ -53,7 +53,7 @@ fn converted(
         return Ok(None);
     }
     let pair = Pair { from, to, dither };
-    let Ok(plan) = plan(alloc, &pair) else {
+    let Ok(plan) = plan(alloc, &pair, 0) else {
         return Ok(None);
     };
     if input.len() as u64 != frame_len(&pair.from.desc, width, rows) {

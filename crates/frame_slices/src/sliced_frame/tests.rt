@@ -60,7 +60,7 @@ fn slices_converted<R: Threads + Sync>(
         to,
         dither: 0,
     };
-    let Ok(plan) = plan(alloc, &pair) else {
+    let Ok(plan) = plan(alloc, &pair, 0) else {
         return Ok(None);
     };
     let Ok(mut frame) = SlicedFrame::new(
