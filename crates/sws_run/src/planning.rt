@@ -13,7 +13,7 @@ pub fn plan_of(alloc: Global, pair: &Pair) -> Result<Plan, OutOfMemory>
     requires { IsTablePair pair.now }
     ensures { IfOk result (λ plan. plan.pair ≡ pair.now) }
 {
-    match plan(alloc, pair) {
+    match plan(alloc, pair, 0) {
         Ok(plan) => Ok(plan),
         Err(BuildFault::OutOfMemory) => Err(OutOfMemory),
         Err(BuildFault::PaletteTarget) => unreachable!(),

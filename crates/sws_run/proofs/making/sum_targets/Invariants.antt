@@ -8,8 +8,8 @@ use Rattle.sws_run.proofs.making.sum_targets.Given as goal
 abbrev pub invariant-loop : goal.invariant-loop
 invariant-loop g l = record {
   here : generated l.generator.state l.generator.left
-      ≡ drop (l.loop-index * made_length l.making.pair) (generated l.making.seed (4 * made_length l.making.pair));
-  value : l.total ≡ sum (made_targets l.making l.loop-index);
-  most : l.total ≤ l.loop-index * 2 ^ 64;
+      ≡ drop (l.counter * made_length l.making.pair) (generated l.making.seed (4 * made_length l.making.pair));
+  value : l.total ≡ sum (made_targets l.making l.counter);
+  most : l.total ≤ l.counter * 2 ^ 64;
   fits : IsFrameMade l.making l.frame.whole;
 }

@@ -169,11 +169,11 @@ returns-in-Err-is_at_end-clause-read_fault g c =
     }
 
 pub convert-requires-clause-source : goal.convert-requires-clause-source
-convert-requires-clause-source g c =
+convert-requires-clause-source g c = λ κs bound.
     (subst (IsFrameFor c.args.converter.now) (sym c.read_frame.ensures.whole) c.loop-done.invariant.fits).source
 
 pub convert-requires-clause-target : goal.convert-requires-clause-target
-convert-requires-clause-target g c =
+convert-requires-clause-target g c = λ κs bound.
     (subst (IsFrameFor c.args.converter.now) (sym c.read_frame.ensures.whole) c.loop-done.invariant.fits).target
 
 pub read_frame-requires : goal.read_frame-requires
