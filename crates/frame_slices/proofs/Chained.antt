@@ -7,7 +7,6 @@ use Rattle.std.proofs.Math.ListN.{get_or-map}
 use Rattle.std.proofs.lemmas.List.Elements.{All-get_or}
 use Rattle.std.proofs.lemmas.List.Folds.{concat-append}
 use Rattle.std.specs.Prelude.{All}
-use Rattle.rayon.proofs.ListFacts.{All-parts}
 
 module _ {X : Type 0} (f : X → List ℕ) where
   pub chain-append : (xs ys : List X) → concat (map f (xs ++ ys)) ≡ concat (map f xs) ++ concat (map f ys)
@@ -59,8 +58,3 @@ module _ {X Y : Type 0} (f : X → Y) where
 
   pub map_more_set : (xs : List X) (i : ℕ) (y : X) → i < length xs → map f (take (i + 1) (set xs i y)) ≡ map f (take i xs) ++ (f y ∷ [])
   map_more_set xs i y within = ap (map f) (take_more_set xs i y within) ∙ map-append f (take i xs) (y ∷ [])
-
--- what holds of all that f makes of a list holds of both its parts
-pub parts_all : {X Y : Type 0} (P : Y → Type 0) (f : X → Y) (xs front back : List X) → xs ≡ front ++ back → All P (map f xs)
-    → All P (map f front) × All P (map f back)
-parts_all P f xs front back is all = All-parts P (map f front) (map f back) (subst (All P) (ap (map f) is ∙ map-append f front back) all)

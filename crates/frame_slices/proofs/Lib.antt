@@ -1,4 +1,5 @@
 pub mod Chained
+pub mod ClosedJobs
 pub mod CutPlaces
 pub mod MadeBytes
 pub mod PlaneParts

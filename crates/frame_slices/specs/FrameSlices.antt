@@ -1,7 +1,8 @@
 -- A frame held as slices of its rows: what they hold, and how a read that goes on from slice to slice ends.
-use Rattle.std.specs.Prelude.{◌≡◌, ℕ, zero, suc, ◌+◌, ◌-◌, ◌*◌, ◌/◌, ◌<◌, min, List, [], ◌∷◌, ◌++◌, map, length, Result, IfOk, OnErr, nat_eq, if◌then◌else◌}
+use Rattle.std.specs.Prelude.{◌≡◌, ℕ, zero, suc, ◌+◌, ◌-◌, ◌*◌, ◌/◌, ◌<◌, ◌≤◌, false, min, List, [], ◌∷◌, ◌++◌, map, length, Result, IfOk, OnErr, nat_eq, if◌then◌else◌}
 use Rattle.std.specs.List.{concat, range_with_len}
 use Rattle.pix_desc.specs.declared.desc.Desc.{Desc}
+use Rattle.pix_desc.specs.Layouts.{IsValid}
 use Rattle.pix_io.specs.Shown.{Shown}
 use Rattle.pix_io.specs.Faults.{HasCause}
 use Rattle.pix_io.specs.Streams.{TakesWhole, TakesPart}
@@ -11,6 +12,8 @@ use Rattle.pix_io.specs.declared.transfer.Got.TheVariants.{Whole, End, Short}
 use Rattle.pix_meaning.specs.declared.pair.Pair.{Pair}
 use Rattle.pix_meaning.specs.Target.{target_rows}
 use Rattle.row_plan.specs.Slices.{RowSlice, plane_rows, behind_planes, joined}
+use Rattle.row_plan.specs.Jobs.{slice_origin}
+use Rattle.row_plan.specs.declared.job.SliceJob.{SliceJob}
 use Rattle.frame_slices.specs.declared.frame_slice.Place.{Place}
 use Rattle.frame_slices.specs.declared.frame_slice.FrameSlice.{FrameSlice}
 
@@ -42,10 +45,6 @@ IsFor pair place = (pair.from.desc ≡ place.source) × (pair.to.desc ≡ place.
 abbrev pub target_of : Pair → FrameSlice → List ℕ
 target_of pair slice = target_rows pair slice.place.width slice.place.rows slice.place.first slice.input.items
 
--- the slice at which part p begins, of n slices in so many parts
-abbrev pub part_start : ℕ → ℕ → ℕ → ℕ
-part_start n parts p = p * n / parts
-
 -- places of so many rows each, one behind the other
 abbrev pub places_from : Desc → Desc → ℕ → ℕ → List ℕ → List Place
 places_from source target width first [] = []
@@ -65,6 +64,32 @@ slice_count whole each = (whole.rows - 1) / each + 1
 -- slices that cut the whole frame so
 abbrev pub AreCut : Place → ℕ → List FrameSlice → Type 0
 AreCut whole each slices = map place_of slices ≡ map (slice_place whole each) (range_with_len 0 (slice_count whole each))
+
+-- ---- slices as jobs
+
+-- what the job of a slice is given with, for a pair
+abbrev pub origin_for : Pair → FrameSlice → List ℕ
+origin_for pair slice = slice_origin pair slice.place.width slice.place.first slice.place.rows slice.input.items
+
+-- where the rows of a job lie, its bytes of the source, and its bytes of the target
+abbrev pub place_of_job : SliceJob → Place
+place_of_job job =
+    record { source = job.pair.from.desc; target = job.pair.to.desc; width = job.width; first = job.first; rows = job.rows }
+
+abbrev pub input_of_job : SliceJob → RowSlice
+input_of_job job = record { rows = job.rows; bytes = job.input.items }
+
+abbrev pub output_of_job : SliceJob → List ℕ
+output_of_job job = job.output.items
+
+-- where rows of a frame may lie
+pub record IsPlace (place : Place) : Type 0 where
+  pub source : IsValid place.source
+  pub target : IsValid place.target
+  pub plain : place.target.palette ≡ false
+  pub width : place.width ≤ 16384
+  pub some : 0 < place.rows
+  pub last : place.first + place.rows ≤ 16384
 
 -- ---- plane by plane
 

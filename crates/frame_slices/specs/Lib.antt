@@ -1,2 +1,3 @@
 pub mod FrameSlices
 pub mod Generated
+pub mod Workers

@@ -5,9 +5,10 @@ ghost use Rattle.std.proofs.Props.{props};
 ghost use Rattle.pix_desc.specs.Layouts.{IsValid};
 ghost use Rattle.frame_slices.specs.FrameSlices.{place_of, rows_of, places_from, HaveOnePalette};
 
+use crate::converting::convert_slices;
 use crate::cutting::cut;
-use crate::fixed_parts::convert_with;
 use crate::frame_slice::{FrameSlice, Place};
+use crate::gate::Gate;
 use crate::slices::{read_frame, write_planes};
 use crate::sums::sum_planes;
 use frac_math::OutOfMemory;
@@ -18,8 +19,7 @@ use std::alloc::Global;
 use std::thread::Threads;
 
 /// A frame held as slices of its rows: of each the bytes of the source and those of the target.
-/// They serve one frame after the
-/// other, and no whole frame stands beside them.
+/// They serve one frame after the other, and no whole frame stands beside them.
 #[derive(Drop)]
 pub struct SlicedFrame {
     /// All rows of the frame.
@@ -104,20 +104,32 @@ impl SlicedFrame {
         read_frame(&mut self.slices, &self.whole, input)
     }
 
-    /// Converts the frame that was read, with so many workers, each for its part of the slices.
-    /// One worker, or one slice, costs
-    /// no thread, and the bytes are the same for every number of workers.
-    pub fn convert<R: Threads + Sync>(&mut self, rt: &R, plan: &Plan, workers: u32)
-        requires source { plan.now.pair.from.desc ≡ self.old.whole.source }
-        requires target { plan.now.pair.to.desc ≡ self.old.whole.target }
+    /// Converts the frame that was read. So many workers, and no more than there are slices, claim
+    /// the slices on a board; each passes the gate with a slice before it converts it.
+    ///
+    /// One worker, or one slice, costs no thread, and the bytes are the same for every number of
+    /// workers. The board takes its memory before the first slice is claimed; where it is not to be
+    /// had, the frame is dropped.
+    pub fn convert<R: Threads + Sync, G: Gate>(
+        self,
+        rt: &R,
+        alloc: Global,
+        plan: &Plan,
+        workers: u32,
+        gate: &G,
+    ) -> Result<Self, OutOfMemory>
+        requires source { plan.now.pair.from.desc ≡ self.whole.source }
+        requires target { plan.now.pair.to.desc ≡ self.whole.target }
         requires workers { 0 < workers }
-        ensures target { target_in self.new.whole self.new.slices.items
-            ≡ target_frame plan.now.pair self.old.whole.width self.old.whole.rows (source_in self.old.whole self.old.slices.items) }
-        ensures source { source_in self.new.whole self.new.slices.items
-            ≡ source_in self.old.whole self.old.slices.items }
-        ensures whole { self.new.whole ≡ self.old.whole }
+        ensures target { IfOk result (λ frame. target_in frame.whole frame.slices.items
+            ≡ target_frame plan.now.pair self.whole.width self.whole.rows (source_in self.whole self.slices.items)) }
+        ensures source { IfOk result (λ frame. source_in frame.whole frame.slices.items
+            ≡ source_in self.whole self.slices.items) }
+        ensures whole { IfOk result (λ frame. frame.whole ≡ self.whole) }
     {
-        convert_with(rt, plan, workers, &mut self.slices);
+        let SlicedFrame { whole, slices } = self;
+        let slices = convert_slices(rt, alloc, plan, workers, gate, slices)?;
+        Ok(SlicedFrame { whole, slices })
     }
 
     /// Writes the target frame straight from the slices.
@@ -135,6 +147,7 @@ impl SlicedFrame {
     {
         write_planes(&self.slices, output)
     }
+
     /// The sum of the bytes of the target frame.
     pub fn sum(&self) -> u64
         ensures { result ≡ sum (target_in self.now.whole self.now.slices.items) }

@@ -5,11 +5,10 @@ ghost use Rattle.pix_desc.specs.Frame.{frame_length};
 ghost use Rattle.pix_io.specs.Faults.{HasCause};
 ghost use Rattle.pix_io.specs.Streams.{Writes, WritesPart};
 ghost use Rattle.row_plan.specs.Slices.{slices_of};
-ghost use Rattle.frame_slices.specs.FrameSlices.{place_of, rows_of, places_from, input_of, output_bytes, plane_of, plane_in, planes_in, target_plane_in, target_planes_in, behind_of, behind_in, got_behind, count_in, source_in, HaveOnePalette, Reads, IsFor, target_of};
+ghost use Rattle.frame_slices.specs.FrameSlices.{place_of, rows_of, places_from, input_of, plane_of, plane_in, planes_in, target_plane_in, target_planes_in, behind_of, behind_in, got_behind, count_in, source_in, HaveOnePalette, Reads};
 
 use crate::frame_slice::{FrameSlice, Place, plane_at};
 use pix_io::{Failed, Got, Sink, Source, read_whole};
-use row_plan::Plan;
 
 // How a read ended that met the end of the input after so many bytes.
 fn ended(filled: usize) -> Got
@@ -97,18 +96,6 @@ pub fn set_palettes(slices: &mut [FrameSlice], palette: &[u8])
 {
     for k in 0..slices.len() {
         slices[k].set_palette(palette);
-    }
-}
-
-/// Converts all slices, one after the other.
-pub fn convert_slices(plan: &Plan, slices: &mut [FrameSlice])
-    requires { All (IsFor plan.now.pair) (map place_of slices.old) }
-    ensures outputs { map output_bytes slices.new ≡ map (target_of plan.now.pair) slices.old }
-    ensures inputs { map input_of slices.new ≡ map input_of slices.old }
-    ensures places { map place_of slices.new ≡ map place_of slices.old }
-{
-    for k in 0..slices.len() {
-        slices[k].convert(plan);
     }
 }
 

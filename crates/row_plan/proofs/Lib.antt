@@ -14,3 +14,4 @@ pub mod PlannedPairs
 pub mod SlicePlanes
 pub mod SliceBytes
 pub mod SliceTargets
+pub mod JobOrigins

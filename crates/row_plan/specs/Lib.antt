@@ -2,3 +2,4 @@ pub mod Evaluated
 pub mod PackedRgb
 pub mod Slices
 pub mod Rows
+pub mod Jobs

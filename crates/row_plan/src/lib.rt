@@ -5,6 +5,7 @@
 //! plan, and `specs/Slices` that a frame is its slices.
 #![tactic(auto)]
 
+mod job;
 pub mod laws;
 mod making;
 mod plans;
@@ -13,5 +14,6 @@ mod slice;
 #[cfg(test)]
 mod tests;
 
+pub use job::SliceJob;
 pub use making::plan;
 pub use plans::Plan;

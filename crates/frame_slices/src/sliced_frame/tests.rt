@@ -1,47 +1,37 @@
 // Frames in slices: converted with every number of workers, and cut at each byte.
-ghost use Rattle.std.specs.Prelude.{◌<◌, ◌≤◌, IfSome};
+ghost use Rattle.std.specs.Prelude.{◌<◌, ◌≤◌};
 ghost use Rattle.row_plan.specs.Evaluated.{IsTableSide};
 
 use super::*;
-use colour_matrix::{Range, named};
-use desc_table::{desc, find};
+use crate::gate::OpenGate;
+use crate::sides::side_of;
 use pix_io::{MemSink, MemSource};
 use pix_meaning::{Pair, Side};
-use row_plan::plan;
+use row_plan::{SliceJob, plan};
+use slice_claim::Held;
 use std::alloc::AllocError;
+use std::sync::atomic::Ordering::SeqCst;
+use std::sync::atomic::{AtomicBool, AtomicU64};
 use std::test::Fail;
 
-fn side_of(name: &str, matrix: &str) -> Option<Side>
-    ensures { IfSome result IsTableSide }
-{
-    let Ok(id) = find(name) else {
-        return None;
-    };
-    let matrix = named(matrix)?;
-    Some(Side {
-        desc: desc(id),
-        matrix,
-        range: Range::Full,
-    })
-}
-
-// A frame of a width and a height, in slices of so many rows.
+// A frame of a width and a height, in slices of so many rows, for so many workers.
 #[derive(Clone, Copy)]
 struct Shape {
     width: u32,
     height: u32,
     each: u32,
+    workers: u32,
 }
 
 // How the frame was read that the input begins with, and what was written of it; nothing where
 // there is no such conversion.
-fn slices_converted<R: Threads + Sync>(
+fn slices_converted<R: Threads + Sync, G: Gate>(
     rt: &R,
     alloc: Global,
     from: Side,
     to: Side,
     shape: Shape,
-    workers: u32,
+    gate: &G,
     input: &[u8],
 ) -> Result<Option<(Got, Vec<u8>)>, AllocError>
     requires from { IsTableSide from }
@@ -51,6 +41,7 @@ fn slices_converted<R: Threads + Sync>(
         width,
         height,
         each,
+        workers,
     } = shape;
     if width > 16384 || height > 16384 || height == 0 || each == 0 || workers == 0 {
         return Ok(None);
@@ -80,7 +71,9 @@ fn slices_converted<R: Threads + Sync>(
     let Ok(got) = frame.read(&mut source) else {
         return Ok(None);
     };
-    frame.convert(rt, &plan, workers);
+    let Ok(frame) = frame.convert(rt, alloc, &plan, workers, gate) else {
+        return Ok(None);
+    };
     let Ok(()) = frame.write(&mut sink) else {
         return Ok(None);
     };
@@ -98,8 +91,9 @@ fn converts_with_every_number_of_workers(rt: HostRuntime) -> Result<(), Fail> {
             width: 1,
             height: 10,
             each,
+            workers,
         };
-        let got = slices_converted(&rt, rt.alloc(), from, to, shape, workers, &input)?;
+        let got = slices_converted(&rt, rt.alloc(), from, to, shape, &OpenGate, &input)?;
         let (read, bytes) = got.ok_or("a frame")?;
         assert_eq!(rt; read, Got::Whole, "{each} {workers}");
         assert_eq!(rt; bytes.as_slice(), output.as_slice(), "{each} {workers}");
@@ -118,10 +112,11 @@ fn gives_each_slice_the_palette(rt: HostRuntime) -> Result<(), Fail> {
         width: 1,
         height: 3,
         each: 1,
+        workers: 2,
     };
     for cut in [0, 1, 2, 3, 4, 1026, 1027] {
         let part = input.get(..cut).ok_or("a front")?;
-        let got = slices_converted(&rt, rt.alloc(), from, to, shape, 2, part)?;
+        let got = slices_converted(&rt, rt.alloc(), from, to, shape, &OpenGate, part)?;
         let (read, bytes) = got.ok_or("a frame")?;
         let expected = match cut {
             0 => Got::End,
@@ -146,10 +141,11 @@ fn cuts_planes_at_each_byte(rt: HostRuntime) -> Result<(), Fail> {
         width: 1,
         height: 3,
         each: 2,
+        workers: 2,
     };
     for cut in 0..10 {
         let part = &input[..cut];
-        let got = slices_converted(&rt, rt.alloc(), from, to, shape, 2, part)?;
+        let got = slices_converted(&rt, rt.alloc(), from, to, shape, &OpenGate, part)?;
         let (read, bytes) = got.ok_or("a frame")?;
         let expected = match cut {
             0 => Got::End,
@@ -161,5 +157,77 @@ fn cuts_planes_at_each_byte(rt: HostRuntime) -> Result<(), Fail> {
             assert_eq!(rt; bytes.as_slice(), [7, 1, 4, 8, 2, 5, 9, 3, 6].as_slice());
         }
     }
+    Ok(())
+}
+
+const MOST_TURNS: u64 = 200_000_000;
+
+// It holds the i-th pass of slice 0 until i passes of slice 1 have come, and gives up after many
+// turns.
+#[derive(Drop)]
+struct Turnstile {
+    first: AtomicU64,
+    second: AtomicU64,
+    others: AtomicU64,
+    gave_up: AtomicBool,
+}
+
+impl Turnstile {
+    fn new() -> Turnstile {
+        Turnstile {
+            first: AtomicU64::new(0),
+            second: AtomicU64::new(0),
+            others: AtomicU64::new(0),
+            gave_up: AtomicBool::new(false),
+        }
+    }
+
+    fn hold(&self, passes: u64) {
+        for _ in 0..MOST_TURNS {
+            if self.gave_up.load(SeqCst) || self.second.load(SeqCst) >= passes {
+                return;
+            }
+        }
+        self.gave_up.store(true, SeqCst);
+    }
+}
+
+impl Gate for Turnstile {
+    fn pass(&self, held: &Held<SliceJob>) {
+        match held.number() {
+            0 => self.hold(self.first.fetch_add(1, SeqCst).wrapping_add(1)),
+            1 => {
+                self.second.fetch_add(1, SeqCst);
+            }
+            _ => {
+                self.others.fetch_add(1, SeqCst);
+            }
+        }
+    }
+}
+
+#[test]
+fn two_workers_share_each_frame(rt: HostRuntime) -> Result<(), Fail> {
+    let gray = side_of("gray", "bt601").ok_or("gray")?;
+    let shape = Shape {
+        width: 2,
+        height: 2,
+        each: 1,
+        workers: 2,
+    };
+    let gate = Turnstile::new();
+    for number in 0..300 {
+        let input = [number as u8, 1, 2, 3];
+        let got = slices_converted(&rt, rt.alloc(), gray, gray, shape, &gate, &input)?;
+        let (_, bytes) = got.ok_or("a frame")?;
+        assert_eq!(rt; bytes.as_slice(), input.as_slice(), "{number}");
+    }
+    assert!(rt; !gate.gave_up.load(SeqCst));
+    let passes = (
+        gate.first.load(SeqCst),
+        gate.second.load(SeqCst),
+        gate.others.load(SeqCst),
+    );
+    assert_eq!(rt; passes, (300, 300, 0));
     Ok(())
 }
