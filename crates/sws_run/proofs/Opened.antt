@@ -1,5 +1,5 @@
 -- What is made for a stream, once its header is known.
-use Rattle.std.proofs.Common.{◌≡◌, ℕ, ◌*◌, ◌<◌, ◌∙◌, ap, refl, sym, arith}
+use Rattle.std.proofs.Common.{◌≡◌, ℕ, ◌*◌, ◌<◌, refl, arith}
 use Rattle.std.proofs.Math.Nat.{mul-pos}
 use Rattle.std.specs.Option.{option_or}
 use Rattle.std.specs.declared.option.Option.{Option}
@@ -14,7 +14,6 @@ use Rattle.colour_matrix.specs.declared.class.Range.{Range}
 use Rattle.colour_matrix.specs.declared.matrix.Matrix.{Matrix}
 use Rattle.desc_table.specs.Format.{desc_of, format_count}
 use Rattle.desc_table.proofs.Rows.{valid_at}
-use Rattle.frame_slices.specs.declared.frame_slice.Place.{Place}
 use Rattle.pix_meaning.specs.declared.pair.Pair.{Pair}
 use Rattle.row_plan.specs.Evaluated.{IsPlannable, IsTableSide}
 use Rattle.row_plan.proofs.Evaluated.{table_pairs_have_plans}
@@ -25,7 +24,7 @@ use Rattle.sws_words.specs.Task.{HasName}
 use Rattle.sws_run.specs.Request.{IsSoundConversion, IsTablePair}
 use Rattle.sws_run.specs.Cut.{source_length}
 use Rattle.sws_run.specs.Sides.{pair_of, side_with}
-use Rattle.sws_run.specs.Frames.{IsConverterOf, IsFrameFor, IsSoundOpening, size_by}
+use Rattle.sws_run.specs.Frames.{IsConverterOf, IsSoundOpening, size_by}
 
 -- a raw frame of some pixels has some bytes
 frame-some : (desc : Desc) (width height : ℕ) → IsValid desc → 0 < width → 0 < height → 0 < frame_length desc width height
@@ -69,14 +68,11 @@ pub source_length_is : (conversion : Conversion) (header : Header) (converter : 
 unfolding source_length pair_of
 source_length_is conversion header converter is = rw (is.pair, is.width, is.height) refl
 
--- slices of the header's size, between the two formats, are those of a frame that is converted
-pub slices_fit : (conversion : Conversion) (header : Header) (converter : Converter) (whole : Place)
-    → IsConverterOf conversion header converter → whole.source ≡ desc_of header.format → whole.target ≡ desc_of conversion.target
-    → whole.width ≡ header.width → whole.rows ≡ header.height → IsFrameFor converter whole
+-- the formats of the pair
+pub source_format : (conversion : Conversion) (header : Header) → (pair_of conversion header).from.desc ≡ desc_of header.format
 unfolding pair_of
-slices_fit conversion header converter whole is source target width height = record {
-  source = ap (λ (pair : Pair). pair.from.desc) is.pair ∙ sym source;
-  target = ap (λ (pair : Pair). pair.to.desc) is.pair ∙ sym target;
-  width = is.width ∙ sym width;
-  height = is.height ∙ sym height;
-}
+source_format conversion header = refl
+
+pub target_format : (conversion : Conversion) (header : Header) → (pair_of conversion header).to.desc ≡ desc_of conversion.target
+unfolding pair_of
+target_format conversion header = refl

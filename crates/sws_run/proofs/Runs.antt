@@ -1,5 +1,5 @@
 -- The run over the frames of an input, at each of its exits.
-use Rattle.std.proofs.Common.{◌≡◌, ℕ, ◌+◌, ◌<◌, List, [], ◌++◌, length, refl, sym, ap, ◌∙◌, arith, subst, map}
+use Rattle.std.proofs.Common.{◌≡◌, ℕ, ◌+◌, ◌<◌, ◌≤◌, List, [], ◌++◌, length, refl, sym, ap, ◌∙◌, arith, subst, map}
 use Rattle.std.proofs.Common.{take, IfSome}
 use Rattle.std.proofs.lemmas.List.{drop-map, length-map}
 use Rattle.std.proofs.Math.Seq.{take-length}
@@ -145,6 +145,19 @@ stops_at_last converter size a b c sink sink' at kept wrote =
     with_texts converter size most_frames a c sink sink'
     (told_then a b c (IsBehindFrames converter size most_frames) (λ bytes rest. rest ≡ bytes) (IsWithin converter size most_frames)
     (λ x y z p q. within_last converter size x y z p q) at kept) wrote
+
+-- ---- want of memory
+
+pub stops_for_memory : (converter : Converter) (size k : ℕ) (a b : Option (List ℕ)) (sink sink' : Shown)
+    → IfTold a b (IsBehindFrames converter size k) → IfSome a (WritesTexts converter size sink sink' k)
+    → IfSome a (λ bytes. (k ≤ length (frames_by converter size bytes).frames) × Writes sink sink'
+    (concat (take k (texts_by converter size bytes))))
+stops_for_memory converter size k a b sink sink' at wrote =
+    some_map2 a (λ bytes. k ≤ length (frames_by converter size bytes).frames) (WritesTexts converter size sink sink' k)
+    (λ bytes. (k ≤ length (frames_by converter size bytes).frames) × Writes sink sink' (concat (take k (texts_by converter size bytes))))
+    (λ x p q. (p, q))
+    (told_old a b (IsBehindFrames converter size k) (λ bytes. k ≤ length (frames_by converter size bytes).frames) (λ x y p. p.within) at)
+    wrote
 
 -- ---- a frame more
 

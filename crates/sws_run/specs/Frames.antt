@@ -29,7 +29,7 @@ use Rattle.sws_run.specs.Request.{form_of}
 use Rattle.sws_run.specs.Sides.{pair_of}
 use Rattle.sws_run.specs.Cut.{Frames, Piece, Nothing, Whole, Faulty, End, Clean, TooMany, header_line_cut, piece_cut, frames_cut}
 use Rattle.sws_run.specs.Cut.{most_frames, whole_within}
-use Rattle.sws_run.specs.Ending.{IsDecided, CanEnd, IfDone, IfReadFault, IfWriteFault}
+use Rattle.sws_run.specs.Ending.{IsDecided, CanEnd, IfDone, IfOutOfMemory, IfReadFault, IfWriteFault}
 use Rattle.sws_run.specs.Output.{ending_at, front_in}
 
 -- a fact of the bytes left before and after, where they are told
@@ -151,6 +151,11 @@ pub record StopsReading (converter : Converter) (size : ℕ) (source source' sin
   pub place : IfReadFault ended (λ k. IfTold source.bytes source'.bytes (λ bytes rest. (n : ℕ) × IsBehind n bytes rest
       × (k ≡ whole_within (λ frame. frame.size) n (frames_by converter size bytes).frames) × Writes sink sink'
       (concat (take k (texts_by converter size bytes)))))
+
+-- at want of memory the texts of its frames were written, and there are at least so many
+abbrev pub StopsForMemory : Converter → ℕ → Shown → Shown → Shown → Ended → Type 0
+StopsForMemory converter size source sink sink' ended = IfOutOfMemory ended (λ k. IfSome source.bytes
+    (λ bytes. (k ≤ length (frames_by converter size bytes).frames) × Writes sink sink' (concat (take k (texts_by converter size bytes)))))
 
 -- at a write fault a front of the texts was written, shorter than they are, and its frames are those that lie wholly in it
 pub record StopsWriting (converter : Converter) (size : ℕ) (source source' sink sink' : Shown) (ended : Ended) : Type 0 where

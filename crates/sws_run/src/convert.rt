@@ -14,7 +14,7 @@ use crate::run::{Converter, convert_frames};
 use crate::sides::pair_of;
 use desc_table::desc;
 use frac_math::OutOfMemory;
-use frame_slices::SlicedFrame;
+use frame_slices::{Gate, SlicedFrame};
 use pix_io::{Sink, Source, write_all};
 use std::alloc::Global;
 use std::thread::Threads;
@@ -86,12 +86,13 @@ fn ended_by(end: HeaderEnd) -> Ended
 
 /// Converts a stream: reads the header of the input, writes that of the output, and then converts
 /// frame after frame.
-pub fn convert<R: Threads + Sync, In: Source, Out: Sink>(
+pub fn convert<R: Threads + Sync, In: Source, Out: Sink, G: Gate>(
     rt: &R,
     alloc: Global,
     conversion: &Conversion,
     input: &mut In,
     output: &mut Out,
+    gate: &G,
 ) -> Ended
     requires { IsSoundConversion conversion.now }
     ensures answer { GivesAnswer (Ok (Request.Convert conversion.now)) (In.shown input.old)
@@ -110,12 +111,17 @@ pub fn convert<R: Threads + Sync, In: Source, Out: Sink>(
         Ok(header) => header,
         Err(end) => return ended_by(end),
     };
-    let Ok(mut stream) = prepare(alloc, conversion, header) else {
+    let Ok(stream) = prepare(alloc, conversion, header) else {
         return Ended::OutOfMemory { frames: 0 };
     };
-    match write_all(output, &stream.text) {
+    let Stream {
+        converter,
+        text,
+        frame,
+    } = stream;
+    match write_all(output, &text) {
         Ok(()) => {}
         Err(_) => return Ended::WriteFault { frames: 0 },
     }
-    convert_frames(rt, &stream.converter, input, output, &mut stream.frame)
+    convert_frames(rt, alloc, &converter, input, output, frame, gate)
 }

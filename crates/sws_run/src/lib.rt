@@ -16,7 +16,8 @@ mod sides;
 mod top;
 
 pub use ended::{Ended, SideName};
-pub use top::{Gate, OpenGate, run_sws};
+pub use frame_slices::{Gate, OpenGate};
+pub use top::run_sws;
 
 #[cfg(test)]
 mod tests;

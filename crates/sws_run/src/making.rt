@@ -8,7 +8,7 @@ ghost use Rattle.sws_run.specs.Request.{IsSoundMaking};
 use crate::planning::plan_of;
 use crate::request::Making;
 use frac_math::OutOfMemory;
-use frame_slices::{Generator, SlicedFrame};
+use frame_slices::{Gate, Generator, SlicedFrame};
 use itoa::Buffer;
 use pix_io::{Got, frame_len};
 use row_plan::Plan;
@@ -42,26 +42,29 @@ fn make_frame(generator: &mut Generator, frame: &mut SlicedFrame)
 }
 
 // The sum of the bytes that the frames are converted to, in the slices of one frame.
-fn sum_targets<R: Threads + Sync>(
+fn sum_targets<R: Threads + Sync, G: Gate>(
     rt: &R,
+    alloc: Global,
     making: &Making,
     plan: &Plan,
-    frame: &mut SlicedFrame,
-) -> u128
+    frame: SlicedFrame,
+    gate: &G,
+) -> Result<u128, OutOfMemory>
     requires sound { IsSoundMaking making.now }
     requires plan { plan.now.pair ≡ making.now.pair }
-    requires frame { IsFrameMade making.now frame.old.whole }
-    ensures { result ≡ sum (made_targets making.now 4) }
+    requires frame { IsFrameMade making.now frame.whole }
+    ensures { IfOk result (λ total. total ≡ sum (made_targets making.now 4)) }
 {
     let count = frame_len(&making.pair.from.desc, SIDE, SIDE);
     let mut generator = Generator::new(making.seed, u64::from(FRAMES) * count);
+    let mut frame = frame;
     let mut total = 0u128;
     for _ in 0..FRAMES {
-        make_frame(&mut generator, frame);
-        frame.convert(rt, plan, making.workers);
+        make_frame(&mut generator, &mut frame);
+        frame = frame.convert(rt, alloc, plan, making.workers, gate)?;
         total += u128::from(frame.sum());
     }
-    total
+    Ok(total)
 }
 
 // The lines on so many bytes with this sum.
@@ -81,17 +84,18 @@ fn sum_lines(alloc: Global, count: u64, total: u128) -> Result<String, OutOfMemo
 
 /// The number and the sum of the bytes that frames made from a seed are converted to. One frame is
 /// held at a time.
-pub fn sum_text<R: Threads + Sync>(
+pub fn sum_text<R: Threads + Sync, G: Gate>(
     rt: &R,
     alloc: Global,
     making: &Making,
+    gate: &G,
 ) -> Result<String, OutOfMemory>
     requires { IsSoundMaking making.now }
     ensures { IfOk result (λ text. string_bytes text
         ≡ sum_lines (length (made_targets making.now 4)) (sum (made_targets making.now 4))) }
 {
     let plan = plan_of(alloc, &making.pair)?;
-    let mut frame = SlicedFrame::new(
+    let frame = SlicedFrame::new(
         alloc,
         &making.pair.from.desc,
         &making.pair.to.desc,
@@ -99,7 +103,7 @@ pub fn sum_text<R: Threads + Sync>(
         SIDE,
         making.slice,
     )?;
-    let total = sum_targets(rt, making, &plan, &mut frame);
+    let total = sum_targets(rt, alloc, making, &plan, frame, gate)?;
     let count = frame_len(&making.pair.to.desc, SIDE, SIDE);
     sum_lines(alloc, u64::from(FRAMES) * count, total)
 }

@@ -11,6 +11,7 @@ use crate::making::sum_text;
 use crate::planning::plan_of;
 use crate::request::Report;
 use frac_math::OutOfMemory;
+use frame_slices::Gate;
 use pix_meaning::Pair;
 use std::alloc::Global;
 use std::thread::Threads;
@@ -25,10 +26,11 @@ fn list_of_operations(alloc: Global, pair: &Pair) -> Result<String, OutOfMemory>
 }
 
 /// The text of a report.
-pub fn report_text<R: Threads + Sync>(
+pub fn report_text<R: Threads + Sync, G: Gate>(
     rt: &R,
     alloc: Global,
     report: &Report,
+    gate: &G,
 ) -> Result<String, OutOfMemory>
     requires { IsSoundReport report.now }
     ensures { IfOk result (λ text. string_bytes text ≡ report_text report.now) }
@@ -36,7 +38,7 @@ pub fn report_text<R: Threads + Sync>(
     match report {
         Report::List => list_text(alloc),
         Report::Ops(pair) => list_of_operations(alloc, pair),
-        Report::Generate(making) => sum_text(rt, alloc, making),
+        Report::Generate(making) => sum_text(rt, alloc, making, gate),
     }
 }
 

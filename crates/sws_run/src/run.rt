@@ -1,14 +1,15 @@
 // The run over the frames of an input: frame after frame.
 ghost use Rattle.std.specs.Prelude.{◌<◌};
-ghost use Rattle.sws_run.specs.Ending.{IfOutOfMemory};
 ghost use Rattle.sws_run.specs.Run.{IsComplete};
-ghost use Rattle.sws_run.specs.Frames.{EndsFrames, StopsReading, StopsWriting, IsFrameFor, size_by};
+ghost use Rattle.sws_run.specs.Frames.{EndsFrames, StopsReading, StopsWriting, StopsForMemory};
+ghost use Rattle.sws_run.specs.Frames.{IsFrameFor, size_by};
 
 use crate::Ended;
 use crate::frame::{Next, is_at_end, read_frame, write_frame};
-use frame_slices::SlicedFrame;
+use frame_slices::{Gate, SlicedFrame};
 use pix_io::{Sink, Source};
 use row_plan::Plan;
+use std::alloc::Global;
 use std::thread::Threads;
 use sws_words::Form;
 use y4m_io::LineEnd;
@@ -31,15 +32,17 @@ pub struct Converter {
 }
 
 /// Converts the frames of the input one after the other, in the slices of one frame.
-pub fn convert_frames<R: Threads + Sync, In: Source, Out: Sink>(
+pub fn convert_frames<R: Threads + Sync, In: Source, Out: Sink, G: Gate>(
     rt: &R,
+    alloc: Global,
     converter: &Converter,
     input: &mut In,
     output: &mut Out,
-    frame: &mut SlicedFrame,
+    frame: SlicedFrame,
+    gate: &G,
 ) -> Ended
     requires some { 0 < size_by converter.now }
-    requires frame { IsFrameFor converter.now frame.old.whole }
+    requires frame { IsFrameFor converter.now frame.whole }
     requires workers { 0 < converter.now.workers }
     ensures answer { EndsFrames converter.now (size_by converter.now) (In.shown input.old)
         (In.shown input.new)
@@ -50,12 +53,14 @@ pub fn convert_frames<R: Threads + Sync, In: Source, Out: Sink>(
     ensures write_fault { StopsWriting converter.now (size_by converter.now) (In.shown input.old)
         (In.shown input.new)
         (Out.shown output.old) (Out.shown output.new) result }
-    ensures memory { IfOutOfMemory result (λ _. ⊥) }
+    ensures memory { StopsForMemory converter.now (size_by converter.now) (In.shown input.old)
+        (Out.shown output.old) (Out.shown output.new) result }
     ensures complete { IsComplete (In.shown input.old) (In.shown input.new) (Out.shown output.old)
         (Out.shown output.new) result }
 {
+    let mut frame = frame;
     for done in 0..MAX_FRAMES {
-        match read_frame(converter.source_form, input, frame) {
+        match read_frame(converter.source_form, input, &mut frame) {
             Ok(Next::Frame) => {}
             Ok(Next::End) => return Ended::Done { frames: done },
             Err(LineEnd::Stream(fault)) => return Ended::Stream {
@@ -64,8 +69,11 @@ pub fn convert_frames<R: Threads + Sync, In: Source, Out: Sink>(
             },
             Err(LineEnd::ReadFault) => return Ended::ReadFault { frames: done },
         }
-        frame.convert(rt, &converter.plan, converter.workers);
-        match write_frame(converter.target_form, output, frame) {
+        frame = match frame.convert(rt, alloc, &converter.plan, converter.workers, gate) {
+            Ok(converted) => converted,
+            Err(_) => return Ended::OutOfMemory { frames: done },
+        };
+        match write_frame(converter.target_form, output, &frame) {
             Ok(()) => {}
             Err(_) => return Ended::WriteFault { frames: done },
         }

@@ -10,26 +10,19 @@ use crate::convert::convert;
 use crate::notes_line::notes_line;
 use crate::report::{report_frames, report_text};
 use crate::request::{Report, Request, request_of};
+use frame_slices::Gate;
 use pix_io::{Sink, Source, write_all};
 use std::alloc::Global;
 use std::thread::Threads;
 use sws_words::{WordsEnd, read_words};
 
-/// What a worker passes after each claim of a slice.
-pub trait Gate: Sync {}
-
-/// The gate of the program, which lets every worker pass.
-#[derive(Clone, Copy, Debug)]
-pub struct OpenGate;
-
-impl Gate for OpenGate {}
-
 // Writes a report.
-fn write_report<R: Threads + Sync, Out: Sink>(
+fn write_report<R: Threads + Sync, Out: Sink, G: Gate>(
     rt: &R,
     alloc: Global,
     report: &Report,
     output: &mut Out,
+    gate: &G,
 ) -> Ended
     requires { IsSoundReport report.now }
     ensures answer { (source : Shown) → GivesAnswer (Ok (Request.Report report.now)) source source
@@ -50,7 +43,7 @@ fn write_report<R: Threads + Sync, Out: Sink>(
     ensures complete { (source : Shown) → IsComplete source source (Out.shown output.old)
         (Out.shown output.new) result }
 {
-    let Ok(text) = report_text(rt, alloc, report) else {
+    let Ok(text) = report_text(rt, alloc, report, gate) else {
         return Ended::OutOfMemory { frames: 0 };
     };
     match write_all(output, text.as_bytes()) {
@@ -62,12 +55,13 @@ fn write_report<R: Threads + Sync, Out: Sink>(
 }
 
 // Does what the words ask for.
-fn run_words<R: Threads + Sync, In: Source, Out: Sink>(
+fn run_words<R: Threads + Sync, In: Source, Out: Sink, G: Gate>(
     rt: &R,
     alloc: Global,
     words: &[String],
     input: &mut In,
     output: &mut Out,
+    gate: &G,
 ) -> Ended
     ensures answer { GivesAnswer (asked_by (map string_bytes words.now)) (In.shown input.old)
         (In.shown input.new) (Out.shown output.old) (Out.shown output.new) result }
@@ -87,8 +81,8 @@ fn run_words<R: Threads + Sync, In: Source, Out: Sink>(
         Err(WordsEnd::OutOfMemory) => return Ended::OutOfMemory { frames: 0 },
     };
     match request_of(&task) {
-        Ok(Request::Convert(conversion)) => convert(rt, alloc, &conversion, input, output),
-        Ok(Request::Report(report)) => write_report(rt, alloc, &report, output),
+        Ok(Request::Convert(conversion)) => convert(rt, alloc, &conversion, input, output, gate),
+        Ok(Request::Report(report)) => write_report(rt, alloc, &report, output, gate),
         Err(refusal) => refusal,
     }
 }
@@ -105,7 +99,7 @@ pub fn run_sws<R: Threads + Sync, In: Source, Out: Sink, Notes: Sink, G: Gate>(
     input: &mut In,
     output: &mut Out,
     notes: &mut Notes,
-    _gate: &G,
+    gate: &G,
 ) -> Ended
     ensures answer { GivesAnswer (asked_by (map string_bytes words.now)) (In.shown input.old)
         (In.shown input.new) (Out.shown output.old) (Out.shown output.new) result }
@@ -120,7 +114,7 @@ pub fn run_sws<R: Threads + Sync, In: Source, Out: Sink, Notes: Sink, G: Gate>(
     ensures complete { IsComplete (In.shown input.old) (In.shown input.new) (Out.shown output.old)
         (Out.shown output.new) result }
 {
-    let ended = run_words(rt, alloc, words, input, output);
+    let ended = run_words(rt, alloc, words, input, output, gate);
     write_notes(notes, &ended);
     ended
 }

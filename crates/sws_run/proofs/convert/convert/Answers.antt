@@ -6,7 +6,7 @@ use Rattle.sws_run.specs.Frames.{size_by}
 use Rattle.sws_run.proofs.Opened.{opening_some, source_length_is}
 use Rattle.sws_run.specs.declared.request.Request.TheVariants as request
 use Rattle.sws_run.specs.Run.{GivesAnswer, GivesReadFault, GivesWriteFault, GivesOutOfMemory, IsComplete}
-use Rattle.sws_run.proofs.Lifts.{answer_lift, read_lift, write_lift, complete_lift, no_memory_lift, header_write_fault, meets_told}
+use Rattle.sws_run.proofs.Lifts.{answer_lift, read_lift, write_lift, complete_lift, memory_lift, header_write_fault, meets_told}
 use Rattle.sws_run.proofs.Lifts.{exit_answer, exit_read_fault, exit_write_fault, exit_memory, exit_complete}
 use Rattle.sws_run.proofs.convert.convert.Goals as goal
 
@@ -144,6 +144,17 @@ returns-clause-complete g c =
 
 pub returns-clause-memory : goal.returns-clause-memory
 returns-clause-memory g c =
-    no_memory_lift c.args.conversion.now (g.In.Source.shown c.args.input.now) (g.In.Source.shown c.convert_frames.new.input)
-    (g.Out.Sink.shown c.args.output.now) (g.Out.Sink.shown c.convert_frames.new.output) c.convert_frames.result
-    c.convert_frames.ensures.memory
+    let conversion = c.args.conversion.now in
+    let header = c.in-Ok.header in
+    let stream = c.in-Ok-prepare.stream in
+    let n = size_by stream.converter in
+    let long : n ≡ source_length header = sym (source_length_is conversion header stream.converter c.in-Ok-prepare.ensures.converter) in
+    let s0 = g.In.Source.shown c.args.input.now in
+    let s1 = g.In.Source.shown c.input_header.new.input in
+    let k0 = g.Out.Sink.shown c.args.output.now in
+    let k1 = g.Out.Sink.shown c.write_all.new.output in
+    let told = meets_told conversion header stream.converter n s0.bytes s1.bytes c.in-Ok-prepare.ensures.converter long
+    c.in-Ok.ensures.header in
+    let wrote = subst (Writes k0 k1) (c.deref.ensures.value ∙ c.in-Ok-prepare.ensures.text) c.in-Ok-write_all.ensures.written in
+    memory_lift conversion header stream.converter n s0 s1 (g.In.Source.shown c.convert_frames.new.input) k0 k1
+    (g.Out.Sink.shown c.convert_frames.new.output) c.convert_frames.result told wrote c.convert_frames.ensures.memory

@@ -1,4 +1,4 @@
 use Rattle.sws_run.proofs.making.sum_text.Goals as goal
 
 pub returns : goal.returns
-returns c = ?
+returns g c = ?

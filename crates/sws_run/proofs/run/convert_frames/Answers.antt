@@ -3,7 +3,7 @@ use Rattle.pix_io.proofs.Calls.{Rose-after}
 use Rattle.sws_run.specs.Cut.{Clean, TooMany, Broken, Faulty, piece_cut, most_frames}
 use Rattle.sws_run.specs.Frames.{IfTold, IsFrameFor, TakesFrame, TakesPiece, size_by, source_held, target_held, text_by}
 use Rattle.sws_run.proofs.Runs.{start_place, start_texts, end_nothing, end_faulty, end_last, ends_as, texts_whole, stops_in_part}
-use Rattle.sws_run.proofs.Runs.{stops_at_last, text_is, next_place, has_text, next_texts, stops_writing, held_by, converted_by}
+use Rattle.sws_run.proofs.Runs.{stops_at_last, text_is, next_place, has_text, next_texts, stops_writing, stops_for_memory, held_by, converted_by}
 use Rattle.sws_run.proofs.run.convert_frames.Goals as goal
 
 pub loop-done-init : goal.loop-done-init
@@ -79,9 +79,9 @@ returns-in-Err-clause-write_fault g c =
     let k = c.loop-done.done in
     let a = (g.In.Source.shown c.args.input.now).bytes in
     let frame = source_held c.read_frame.new.frame in
-    let target = target_held c.convert.new.self in
+    let target = target_held c.in-Ok-convert.converted in
     let fits = subst (IsFrameFor converter) (sym c.read_frame.ensures.whole) c.loop-done.invariant.fits in
-    let is = converted_by converter c.read_frame.new.frame.whole frame target fits c.convert.ensures.target in
+    let is = converted_by converter c.read_frame.new.frame.whole frame target fits c.in-Ok-convert.ensures.target in
     let next = subst (λ n. IfTold (g.In.Source.shown c.loop-done.input).bytes (g.In.Source.shown c.read_frame.new.input).bytes (TakesFrame converter.source_form n frame))
     (held_by converter c.loop-done.frame c.loop-done.invariant.fits) (rw c.in-Ok-Frame.field-0-is at c.in-Ok-Frame.ensures.next) in
     let has = has_text converter size k frame a (g.In.Source.shown c.loop-done.input).bytes
@@ -103,9 +103,9 @@ loop-done-preserved g c =
     let b = (g.In.Source.shown c.loop-done.input).bytes in
     let d = (g.In.Source.shown c.read_frame.new.input).bytes in
     let frame = source_held c.read_frame.new.frame in
-    let target = target_held c.convert.new.self in
+    let target = target_held c.in-Ok-convert.converted in
     let fits = subst (IsFrameFor converter) (sym c.read_frame.ensures.whole) c.loop-done.invariant.fits in
-    let is = converted_by converter c.read_frame.new.frame.whole frame target fits c.convert.ensures.target in
+    let is = converted_by converter c.read_frame.new.frame.whole frame target fits c.in-Ok-convert.ensures.target in
     let next = subst (λ n. IfTold (g.In.Source.shown c.loop-done.input).bytes (g.In.Source.shown c.read_frame.new.input).bytes (TakesFrame converter.source_form n frame))
     (held_by converter c.loop-done.frame c.loop-done.invariant.fits) (rw c.in-Ok-Frame.field-0-is at c.in-Ok-Frame.ensures.next) in
     let has = has_text converter size k frame a b d c.loop-done-test.true c.loop-done.invariant.place next in
@@ -117,7 +117,7 @@ loop-done-preserved g c =
           has c.loop-done.invariant.written text;
       reads = search rules;
       writes = search rules;
-      fits = subst (IsFrameFor converter) (sym c.convert.ensures.whole) fits;
+      fits = subst (IsFrameFor converter) (sym c.in-Ok-convert.ensures.whole) fits;
     }
 
 pub returns-in-Ok-true-clause-answer : goal.returns-in-Ok-true-clause-answer
@@ -178,3 +178,10 @@ convert-requires-clause-target g c = λ κs bound.
 
 pub read_frame-requires : goal.read_frame-requires
 read_frame-requires g c = omega (arith, held_by c.args.converter.now c.loop-done.frame c.loop-done.invariant.fits, c.requires.some)
+
+pub returns-in-Err-convert-clause-memory : goal.returns-in-Err-convert-clause-memory
+returns-in-Err-convert-clause-memory g c =
+    let converter = c.args.converter.now in
+    stops_for_memory converter (size_by converter) c.loop-done.done (g.In.Source.shown c.args.input.now).bytes
+    (g.In.Source.shown c.loop-done.input).bytes (g.Out.Sink.shown c.args.output.now) (g.Out.Sink.shown c.loop-done.output)
+    c.loop-done.invariant.place c.loop-done.invariant.written
