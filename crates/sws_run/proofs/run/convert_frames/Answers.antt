@@ -1,7 +1,8 @@
 use Rattle.std.proofs.Common.{◌≡◌, length, rules, arith, subst, inr, IfSome, sym}
 use Rattle.pix_io.proofs.Calls.{Rose-after}
+use Rattle.sws_run.specs.declared.ended.Ended.TheVariants.{Stream}
 use Rattle.sws_run.specs.Cut.{Clean, TooMany, Broken, Faulty, piece_cut, most_frames}
-use Rattle.sws_run.specs.Frames.{IfTold, IsFrameFor, TakesFrame, TakesPiece, size_by, source_held, target_held, text_by}
+use Rattle.sws_run.specs.Frames.{EndsFrames, IfTold, IsFrameFor, TakesFrame, TakesPiece, size_by, source_held, target_held, text_by}
 use Rattle.sws_run.proofs.Runs.{start_place, start_texts, end_nothing, end_faulty, end_last, ends_as, texts_whole, stops_in_part}
 use Rattle.sws_run.proofs.Runs.{stops_at_last, text_is, next_place, has_text, next_texts, stops_writing, stops_for_memory, held_by, converted_by}
 use Rattle.sws_run.proofs.run.convert_frames.Goals as goal
@@ -46,13 +47,15 @@ returns-in-Err-Stream-clause-answer g c =
     let long = held_by converter c.loop-done.frame c.loop-done.invariant.fits in
     let is = subst (λ n. IfSome b (λ rest. piece_cut converter.source_form n rest ≡ Faulty fault)) long found in
     let frames = end_faulty converter size k fault a b c.loop-done-test.true c.loop-done.invariant.place is in
-    record {
+    subst (λ f. EndsFrames converter size (g.In.Source.shown c.args.input.now) (g.In.Source.shown c.read_frame.new.input)
+    (g.Out.Sink.shown c.args.output.now) (g.Out.Sink.shown c.loop-done.output) (Stream f k)) (sym c.in-Err-Stream.fault-is)
+    (record {
       known = λ _. inr (known, c.loop-done-test.true);
       ending = λ _. ends_as converter size k (Broken fault) a frames;
       output = λ _. texts_whole converter size k (Broken fault) a (g.Out.Sink.shown c.args.output.now)
           (g.Out.Sink.shown c.loop-done.output) frames c.loop-done.invariant.written;
       read = tt;
-    }
+    })
 
 pub returns-in-Err-ReadFault-clause-read_fault : goal.returns-in-Err-ReadFault-clause-read_fault
 returns-in-Err-ReadFault-clause-read_fault g c =
@@ -72,21 +75,21 @@ returns-in-Err-ReadFault-clause-read_fault g c =
           c.loop-done.invariant.written;
     }
 
-pub returns-in-Err-clause-write_fault : goal.returns-in-Err-clause-write_fault
-returns-in-Err-clause-write_fault g c =
+pub returns-in-Err-write_frame-clause-write_fault : goal.returns-in-Err-write_frame-clause-write_fault
+returns-in-Err-write_frame-clause-write_fault g c =
     let converter = c.args.converter.now in
     let size = size_by converter in
     let k = c.loop-done.done in
     let a = (g.In.Source.shown c.args.input.now).bytes in
     let frame = source_held c.read_frame.new.frame in
-    let target = target_held c.in-Ok-convert.converted in
+    let target = target_held c.in-Ok.converted in
     let fits = subst (IsFrameFor converter) (sym c.read_frame.ensures.whole) c.loop-done.invariant.fits in
-    let is = converted_by converter c.read_frame.new.frame.whole frame target fits c.in-Ok-convert.ensures.target in
+    let is = converted_by converter c.read_frame.new.frame.whole frame target fits c.in-Ok.ensures.target in
     let next = subst (λ n. IfTold (g.In.Source.shown c.loop-done.input).bytes (g.In.Source.shown c.read_frame.new.input).bytes (TakesFrame converter.source_form n frame))
     (held_by converter c.loop-done.frame c.loop-done.invariant.fits) (rw c.in-Ok-Frame.field-0-is at c.in-Ok-Frame.ensures.next) in
     let has = has_text converter size k frame a (g.In.Source.shown c.loop-done.input).bytes
     (g.In.Source.shown c.read_frame.new.input).bytes c.loop-done-test.true c.loop-done.invariant.place next in
-    let part = rw (text_is converter frame target is) at c.in-Err.ensures.part in
+    let part = rw (text_is converter frame target is) at c.in-Err-write_frame.ensures.part in
     record {
       cause = search rules;
       place = stops_writing converter size k (text_by converter frame) a (g.Out.Sink.shown c.args.output.now)
@@ -103,13 +106,13 @@ loop-done-preserved g c =
     let b = (g.In.Source.shown c.loop-done.input).bytes in
     let d = (g.In.Source.shown c.read_frame.new.input).bytes in
     let frame = source_held c.read_frame.new.frame in
-    let target = target_held c.in-Ok-convert.converted in
+    let target = target_held c.in-Ok.converted in
     let fits = subst (IsFrameFor converter) (sym c.read_frame.ensures.whole) c.loop-done.invariant.fits in
-    let is = converted_by converter c.read_frame.new.frame.whole frame target fits c.in-Ok-convert.ensures.target in
+    let is = converted_by converter c.read_frame.new.frame.whole frame target fits c.in-Ok.ensures.target in
     let next = subst (λ n. IfTold (g.In.Source.shown c.loop-done.input).bytes (g.In.Source.shown c.read_frame.new.input).bytes (TakesFrame converter.source_form n frame))
     (held_by converter c.loop-done.frame c.loop-done.invariant.fits) (rw c.in-Ok-Frame.field-0-is at c.in-Ok-Frame.ensures.next) in
     let has = has_text converter size k frame a b d c.loop-done-test.true c.loop-done.invariant.place next in
-    let text = rw (text_is converter frame target is) at c.in-Ok.ensures.written in
+    let text = rw (text_is converter frame target is) at c.in-Ok-write_frame.ensures.written in
     record {
       place = next_place converter size k frame a b d c.loop-done-test.true c.loop-done.invariant.place next;
       written = next_texts converter size k (text_by converter frame) a (g.Out.Sink.shown c.args.output.now)
@@ -117,7 +120,7 @@ loop-done-preserved g c =
           has c.loop-done.invariant.written text;
       reads = search rules;
       writes = search rules;
-      fits = subst (IsFrameFor converter) (sym c.in-Ok-convert.ensures.whole) fits;
+      fits = subst (IsFrameFor converter) (sym c.in-Ok.ensures.whole) fits;
     }
 
 pub returns-in-Ok-true-clause-answer : goal.returns-in-Ok-true-clause-answer
@@ -154,8 +157,8 @@ returns-in-Ok-false-clause-answer g c =
       read = tt;
     }
 
-pub returns-in-Err-is_at_end-clause-read_fault : goal.returns-in-Err-is_at_end-clause-read_fault
-returns-in-Err-is_at_end-clause-read_fault g c =
+pub returns-clause-read_fault : goal.returns-clause-read_fault
+returns-clause-read_fault g c =
     let converter = c.args.converter.now in
     let size = size_by converter in
     let a = (g.In.Source.shown c.args.input.now).bytes in
@@ -179,8 +182,8 @@ convert-requires-clause-target g c = λ κs bound.
 pub read_frame-requires : goal.read_frame-requires
 read_frame-requires g c = omega (arith, held_by c.args.converter.now c.loop-done.frame c.loop-done.invariant.fits, c.requires.some)
 
-pub returns-in-Err-convert-clause-memory : goal.returns-in-Err-convert-clause-memory
-returns-in-Err-convert-clause-memory g c =
+pub returns-in-Err-clause-memory : goal.returns-in-Err-clause-memory
+returns-in-Err-clause-memory g c =
     let converter = c.args.converter.now in
     stops_for_memory converter (size_by converter) c.loop-done.done (g.In.Source.shown c.args.input.now).bytes
     (g.In.Source.shown c.loop-done.input).bytes (g.Out.Sink.shown c.args.output.now) (g.Out.Sink.shown c.loop-done.output)
