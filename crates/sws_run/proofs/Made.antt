@@ -78,13 +78,14 @@ unfolding target_rows
 length_of_target pair frame plain = length-frame_of pair.to.desc 512 512 _ ∙ sym (frame_length_is pair.to.desc 512 512 plain)
 
 -- all frames have the same length
+length_of_first : (making : Making) → making.pair.to.desc.palette ≡ false → (k : ℕ)
+    → length (made_targets making k) ≡ k * frame_length making.pair.to.desc 512 512
+unfolding made_targets
+length_of_first making plain zero = refl
+length_of_first making plain (suc k) =
+    length-append (made_targets making k) (target_frame making.pair 512 512 (made_frame making k))
+    ∙ omega (arith, length_of_first making plain k, length_of_target making.pair (made_frame making k) plain)
+
 pub length_of_targets : (making : Making) → making.pair.to.desc.palette ≡ false
     → length (made_targets making 4) ≡ 4 * frame_length making.pair.to.desc 512 512
-length_of_targets making plain = all 4
-  where
-    all : (k : ℕ) → length (made_targets making k) ≡ k * frame_length making.pair.to.desc 512 512
-    unfolding made_targets
-    all zero = refl
-    all (suc k) =
-        length-append (made_targets making k) (target_frame making.pair 512 512 (made_frame making k))
-        ∙ omega (arith, all k, length_of_target making.pair (made_frame making k) plain)
+length_of_targets making plain = length_of_first making plain 4

@@ -113,6 +113,7 @@ pub record IsConverterOf (conversion : Conversion) (header : Header) (converter 
   pub height : converter.height ≡ header.height
   pub source_form : converter.source_form ≡ form_of conversion.input
   pub target_form : converter.target_form ≡ conversion.target_form
+  pub workers : converter.workers ≡ conversion.workers
 
 -- a frame of this size and these formats is one that it converts
 pub record IsFrameFor (converter : Converter) (whole : Place) : Type 0 where

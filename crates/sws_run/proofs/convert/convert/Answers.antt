@@ -1,6 +1,7 @@
-use Rattle.std.proofs.Common.{◌≡◌, Ok, sym, ◌∙◌, subst, arith}
+use Rattle.std.proofs.Common.{◌≡◌, Ok, inl, refl, sym, ◌∙◌, subst, arith}
 use Rattle.pix_io.specs.Faults.{HasNoFault}
 use Rattle.pix_io.specs.Streams.{Writes, WritesPart}
+use Rattle.pix_io.proofs.Calls.{Writes-nil}
 use Rattle.sws_run.specs.Cut.{source_length}
 use Rattle.sws_run.specs.Frames.{size_by}
 use Rattle.sws_run.proofs.Opened.{opening_some, source_length_is}
@@ -70,6 +71,12 @@ convert_frames-requires-clause-some g c =
       opening_some c.in-Ok.header c.in-Ok.ensures.sound,
       source_length_is c.args.conversion.now c.in-Ok.header c.in-Ok-prepare.stream.converter c.in-Ok-prepare.ensures.converter,
     )
+
+pub convert_frames-requires-clause-workers : goal.convert_frames-requires-clause-workers
+convert_frames-requires-clause-workers g c = omega (arith, c.in-Ok-prepare.ensures.converter.workers, c.requires.workers)
+
+pub returns-in_default-clause-memory : goal.returns-in_default-clause-memory
+returns-in_default-clause-memory g c = record { output = inl (refl, Writes-nil (g.Out.Sink.shown c.args.output.now)) }
 
 pub returns-clause-answer : goal.returns-clause-answer
 returns-clause-answer g c =

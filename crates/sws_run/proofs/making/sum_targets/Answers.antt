@@ -23,9 +23,12 @@ pub make_frame-requires-clause-enough : goal.make_frame-requires-clause-enough
 make_frame-requires-clause-enough g c =
     let making = c.args.making.now in
     let n = made_length making.pair in
-    omega (arith, made_by making c.loop.frame c.loop.invariant.fits,
-    enough_left n c.loop.counter (generated making.seed (4 * n)) (generated c.loop.generator.state c.loop.generator.left)
-    c.loop.invariant.here (length-generated making.seed (4 * n)) c.loop-test.true)
+    omega (
+      arith,
+      made_by making c.loop.frame c.loop.invariant.fits,
+      enough_left n c.loop.counter (generated making.seed (4 * n)) (generated c.loop.generator.state c.loop.generator.left)
+          c.loop.invariant.here (length-generated making.seed (4 * n)) c.loop-test.true,
+    )
 
 pub loop-preserved : goal.loop-preserved
 loop-preserved g c =
