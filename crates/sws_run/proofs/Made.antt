@@ -81,7 +81,7 @@ length_of_target pair frame plain = length-frame_of pair.to.desc 512 512 _ ∙ s
 length_of_first : (making : Making) → making.pair.to.desc.palette ≡ false → (k : ℕ)
     → length (made_targets making k) ≡ k * frame_length making.pair.to.desc 512 512
 unfolding made_targets
-length_of_first making plain zero = refl
+length_of_first making plain zero = (let none : 0 ≡ 0 * frame_length making.pair.to.desc 512 512 = omega arith in none)
 length_of_first making plain (suc k) =
     length-append (made_targets making k) (target_frame making.pair 512 512 (made_frame making k))
     ∙ omega (arith, length_of_first making plain k, length_of_target making.pair (made_frame making k) plain)
