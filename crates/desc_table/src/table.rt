@@ -1,8 +1,8 @@
 // The table of formats, after FFmpeg's libavutil/pixdesc.c.
-ghost use Rattle.std.specs.Prelude.{◌≡◌, ◌<◌, map, length, position, bytes_eq, IfSome};
+ghost use Rattle.std.specs.Prelude.{◌≡◌, ◌<◌, map, length, position, bytes_eq, IfSome, None};
 ghost use Rattle.desc_table.specs.Format.{formats, format_count, format_at};
 ghost use Rattle.desc_table.specs.Refused.{row_named};
-ghost use Rattle.desc_table.specs.Row.{format_of};
+ghost use Rattle.desc_table.specs.Row.{format_of, differing_row};
 
 use pix_desc::Comp;
 
@@ -195,8 +195,10 @@ static FORMATS: &[Row] = &[
     row!("pal8", PALETTE, [0 1 0 0 8]),
 ];
 
-// The rows of the table, in their order.
+// The rows of the table, in their order. Where a descriptor is another than in the definitions, the
+// refusal of `differing` prints the format's name.
 fn rows() -> &'static [Row]
+    ensures differing { differing_row (map format_of result.now) formats ≡ None }
     ensures count { length result.now ≡ format_count }
     ensures value { map format_of result.now ≡ formats }
 {

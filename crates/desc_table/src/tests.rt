@@ -205,8 +205,9 @@ fn line_of(alloc: Global, id: FormatId) -> Result<String, AllocError> {
 #[test]
 fn formats_read_as_the_reference_prints_them(rt: HostRuntime) -> Result<(), Fail> {
     for line in table() {
-        let (name, _) = line.split_once(' ').expect(&rt, "a name");
-        let id = find(name).expect(&rt, "a format");
+        let (wanted, _) = line.split_once(' ').expect(&rt, "a name");
+        assert_eq!(rt; find(wanted).map(name), Ok(wanted));
+        let id = find(wanted).expect(&rt, "a format");
         assert_eq!(rt; line_of(rt.alloc(), id)?.as_str(), *line);
         assert_eq!(rt; at(index(id)), Some(id));
     }

@@ -29,7 +29,7 @@ pub use fault::PushFault;
 pub use fractions::{greater, lesser};
 pub use identity::is_identity_row;
 pub use list::{MAX_OPERATIONS, OpList};
-pub use numbers::total;
+pub use numbers::{field, packed, product_modulo, reversed_bytes, shifted, total};
 pub use op::Op;
 pub use position::PixelPosition;
 pub use store::store_elements;

@@ -24,7 +24,8 @@ pub fn swapped(values: &[u32; 4], bits: u32) -> [u32; 4]
     ]
 }
 
-fn reversed_bytes(value: u32, bits: u32) -> u32
+/// The number whose lowest 16 or 32 bits, in bytes, are those of another one in the other order.
+pub fn reversed_bytes(value: u32, bits: u32) -> u32
     requires { (bits ≡ 16) ⊎ (bits ≡ 32) }
     ensures { result ≡ reversed_bytes (bits / 8) value }
 {
@@ -56,7 +57,8 @@ pub fn unpacked(widths: &[u8; 4], value: u32) -> [u32; 4]
     ]
 }
 
-fn field(value: u32, below: u32, width: u8) -> u32
+/// The field of a number that has `width` bits above the lowest `below`.
+pub fn field(value: u32, below: u32, width: u8) -> u32
     requires below { below ≤ 32 }
     requires width { width ≤ 32 }
     ensures { result ≡ value / 2 ^ below % 2 ^ width }
@@ -64,7 +66,7 @@ fn field(value: u32, below: u32, width: u8) -> u32
     ((u64::from(value) >> below) % power(u32::from(width))) as u32
 }
 
-// The values as the fields of one number.
+/// The values as the fields of one number, the first as its most significant ones.
 pub fn packed(widths: &[u8; 4], values: &[u32; 4]) -> u32
     requires { sum widths.now ≤ 32 }
     ensures { result ≡ placed widths.now (slice_index values.now 0) 0
@@ -105,7 +107,8 @@ pub fn shifted_left(values: &[u32; 4], n: u8, bits: u32) -> [u32; 4]
     ]
 }
 
-fn shifted(value: u32, n: u8, bits: u32) -> u32
+/// The value times 2^n, modulo 2^bits.
+pub fn shifted(value: u32, n: u8, bits: u32) -> u32
     requires n { n < bits }
     requires bits { bits ≤ 32 }
     ensures { result ≡ value * 2 ^ n % 2 ^ bits }
@@ -139,7 +142,8 @@ pub fn multiplied(values: &[u32; 4], factor: u32, bits: u32) -> [u32; 4]
     ]
 }
 
-fn product_modulo(value: u32, factor: u32, bits: u32) -> u32
+/// The value times a factor, modulo 2^bits.
+pub fn product_modulo(value: u32, factor: u32, bits: u32) -> u32
     requires { bits ≤ 32 }
     ensures { result ≡ value * factor % 2 ^ bits }
 {

@@ -119,6 +119,7 @@ replaces : (stage : Stage) (ranges : List ValueRange) (widths : List ℕ) (rest 
     → Replaces stage ranges (Unpack widths ∷ Pack widths ∷ []) None rest
 replaces stage ranges widths rest size fills alone = record {
   inner = refl;
+  unread = refl;
   lighter = lighter widths widths;
   typed = λ h. (typed_none stage, stays stage widths widths);
   same = λ frame position v at.

@@ -100,6 +100,7 @@ runs frame position stage used v h = h
 replaces : (stage : Stage) (ranges : List ValueRange) (rest : List Op) → Replaces stage ranges (SwapBytes ∷ SwapBytes ∷ []) None rest
 replaces stage ranges rest = record {
   inner = refl;
+  unread = refl;
   lighter = lighter;
   typed = λ h. (typed_none stage, stays stage);
   same = λ frame position v at.

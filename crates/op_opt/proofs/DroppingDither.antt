@@ -81,6 +81,7 @@ replaces : (stage : Stage) (ranges : List ValueRange) (k : ℕ) (rest : List Op)
     → Replaces stage ranges (Dither k ∷ []) None rest
 replaces stage ranges k rest test lead = record {
   inner = refl;
+  unread = refl;
   lighter = lighter k;
   typed = typed stage k;
   same = λ frame position v at.

@@ -129,43 +129,43 @@ idle_dropped : (stage : Stage) (ranges : List ValueRange) (op : Op) (rest : List
     → Replaces stage ranges (op ∷ []) None rest
 unfolding is_idle apply stage_after may_follow
 idle_dropped stage ranges (Clear entries) rest h =
-    dropped stage ranges (Clear entries) rest refl refl (λ frame position v at. cleared_kept entries (used_from rest) v h)
+    dropped stage ranges (Clear entries) rest refl refl refl (λ frame position v at. cleared_kept entries (used_from rest) v h)
 idle_dropped stage ranges (LeftShift n) rest h =
-    dropped stage ranges (LeftShift n) rest refl refl
+    dropped stage ranges (LeftShift n) rest refl refl refl
     (λ frame position v at. agree_with_numbers (used_from rest) v (λ i. number v i * 2 ^ n % 2 ^ bits_at stage) (whole_here stage
     (LeftShift n) rest v at.typed refl at.kind)
     (λ i below u. left_kept (bits_at stage) (number v i) n h (at.small.each i below)))
 idle_dropped stage ranges (RightShift n) rest h =
-    dropped stage ranges (RightShift n) rest refl refl
+    dropped stage ranges (RightShift n) rest refl refl refl
     (λ frame position v at. agree_with_numbers (used_from rest) v (λ i. number v i / 2 ^ n) (whole_here stage
     (RightShift n) rest v at.typed refl at.kind)
     (λ i below u. right_kept (number v i) n h))
 idle_dropped stage ranges (Swizzle from) rest h =
-    dropped stage ranges (Swizzle from) rest refl refl (λ frame position v at. swizzled_kept from (used_from rest) v h)
+    dropped stage ranges (Swizzle from) rest refl refl refl (λ frame position v at. swizzled_kept from (used_from rest) v h)
 idle_dropped stage ranges (Convert to true) rest h = absurd (let p = and_parts (has_type to stage) false h in cc)
 idle_dropped stage ranges (Convert to false) rest h =
     let is = (and_parts (has_type to stage) true h).0 in
-    dropped stage ranges (Convert to false) rest refl (same_stage to stage is)
+    dropped stage ranges (Convert to false) rest refl refl (same_stage to stage is)
     (λ frame position v at. converted_kept to stage (used_from rest) v is at.kind at.small)
 idle_dropped stage ranges (Linear rows) rest h =
-    dropped stage ranges (Linear rows) rest refl refl
+    dropped stage ranges (Linear rows) rest refl refl refl
     (λ frame position v at. agree_with_fractions (used_from rest) v (λ i. row_value (row_of rows i) v) (rational_here stage
     (Linear rows) rest v at.typed refl at.kind)
     (λ i below u. identity_value (row_of rows i) i v below
     (if_used (is_used (used_from rest) i) _ (all_at (λ j. not (is_used (used_from rest) j) || is_identity_row j
     (row_of rows j)) i below h) u)))
 idle_dropped stage ranges (Scale by) rest h =
-    dropped stage ranges (Scale by) rest refl refl
+    dropped stage ranges (Scale by) rest refl refl refl
     (λ frame position v at. agree_with_fractions (used_from rest) v (λ i. fraction v i *ℚ by) (rational_here stage
     (Scale by) rest v at.typed refl at.kind)
     (λ i below u. sym (ap (λ c. fraction v i *ℚ c) (equal_is by (nat 1) h) ∙ mul-one (fraction v i))))
 idle_dropped stage ranges (Min limits) rest h =
-    dropped stage ranges (Min limits) rest refl refl
+    dropped stage ranges (Min limits) rest refl refl refl
     (λ frame position v at. agree_with_fractions (used_from rest) v (λ i. at_most (entry limits i) (fraction v i)) (rational_here stage
     (Min limits) rest v at.typed refl at.kind)
     (λ i below u. no_min (entry limits i) (fraction v i) (all_at (λ j. is_missing (entry limits j)) i below h)))
 idle_dropped stage ranges (Max limits) rest h =
-    dropped stage ranges (Max limits) rest refl refl
+    dropped stage ranges (Max limits) rest refl refl refl
     (λ frame position v at. agree_with_fractions (used_from rest) v (λ i. at_least (entry limits i) (fraction v i)) (rational_here stage
     (Max limits) rest v at.typed refl at.kind)
     (λ i below u. no_max (entry limits i) (fraction v i) (all_at (λ j. is_missing (entry limits j)) i below h)))

@@ -30,6 +30,7 @@ use Rattle.op_range.proofs.Agreeing.{agree_numbers}
 use Rattle.op_opt.specs.declared.change.Change.{Change}
 use Rattle.op_opt.specs.ExpandBytes.{is_expanding_row, expands_used, goes_through_fractions, expand_bytes}
 use Rattle.op_opt.specs.Weight.{weight, weight_of}
+use Rattle.op_opt.proofs.Ends.{is_read}
 use Rattle.op_opt.proofs.PassedTests.{chosen, if_used, all_at}
 use Rattle.op_opt.proofs.LinearRows.{expanding_value}
 use Rattle.op_opt.proofs.Replacing.{IsSound, Replaces, Replacement, same_by_agreement}
@@ -37,6 +38,7 @@ use Rattle.op_opt.proofs.Replacing.{IsSound, Replaces, Replacement, same_by_agre
 -- ---- an operation that makes the used fractions 257 times as great
 record Expands (used : List Bool) (op : Op) : Type 0 where
   inner : is_write op ≡ false
+  unread : is_read op ≡ false
   leaves : (stage : Stage) → stage_after stage op ≡ stage
   made : List ℚ → ℕ → ℚ
   applies : (frame : List ℕ) (position : PixelPosition) (stage : Stage) (xs : List ℚ)
@@ -47,6 +49,7 @@ scale_expands : (used : List Bool) (factor : ℚ) → equal_ℚ factor (nat 257)
 unfolding stage_after apply
 scale_expands used factor is = record {
   inner = refl;
+  unread = refl;
   leaves = λ stage. refl;
   made = λ xs i. fraction_in xs i *ℚ factor;
   applies = λ frame position stage xs. refl;
@@ -57,6 +60,7 @@ linear_expands : (used : List Bool) (rows : List (List ℚ)) → expands_used us
 unfolding stage_after apply
 linear_expands used rows is = record {
   inner = refl;
+  unread = refl;
   leaves = λ stage. refl;
   made = λ xs i. row_value (row_of rows i) (Fractions xs);
   applies = λ frame position stage xs. refl;
@@ -108,6 +112,7 @@ replaces : (ranges : List ValueRange) (op : Op) (first last : Bool) (rest : List
     → Replaces (Typed U8) ranges (Convert Rat first ∷ op ∷ Convert U16 last ∷ []) (Some (Convert U16 true)) rest
 replaces ranges op first last rest e = record {
   inner = and_from (not (is_write op)) true (ap not e.inner) refl;
+  unread = and_from (not (is_read op)) true (ap not e.unread) refl;
   lighter = lighter op first last;
   typed = λ h. (one_typed, same_type op first last);
   same = λ frame position v at.

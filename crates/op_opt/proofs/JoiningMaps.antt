@@ -27,6 +27,7 @@ use Rattle.op_opt.specs.Changes.{taking}
 use Rattle.op_opt.specs.JoinMaps.{diagonal, plus_product, checked_dot, column_of, joined_row, joined_rows, join_maps}
 use Rattle.op_opt.specs.Weight.{weight, weight_of}
 use Rattle.op_list.specs.Identity.{is_identity_row}
+use Rattle.op_opt.proofs.Ends.{is_read}
 use Rattle.op_opt.proofs.JoiningSwizzles.{at_most_four}
 use Rattle.op_opt.proofs.Replacing.{IsSound, Replaces, Replacement}
 
@@ -147,6 +148,7 @@ diagonal_twice a b c h v =
 record IsMap (op : Op) (rows : List (List ℚ)) : Type 0 where
   applies : (frame : List ℕ) (position : PixelPosition) (stage : Stage) (v : Values) → apply frame position stage op v ≡ mapped rows v
   inner : is_write op ≡ false
+  unread : is_read op ≡ false
   heavy : 64 ≤ weight_of op
   light : weight_of op ≤ 68
   follows : (stage : Stage) → may_follow stage op ≡ is_rational stage
@@ -158,6 +160,7 @@ unfolding apply mapped weight_of may_follow are_good stage_after
 linear_map rows = record {
   applies = λ frame position stage v. refl;
   inner = refl;
+  unread = refl;
   heavy = omega arith;
   light = omega (arith, at_most_four (λ i. not (is_identity_row i (row_of rows i))));
   follows = λ stage. refl;
@@ -175,6 +178,7 @@ unfolding weight_of may_follow are_good stage_after
 scale_map by = record {
   applies = λ frame position stage v. scale_applies by frame position stage v ∙ scaled_mapped by v;
   inner = refl;
+  unread = refl;
   heavy = omega arith;
   light = omega arith;
   follows = λ stage. refl;
@@ -205,6 +209,7 @@ replaces : (stage : Stage) (ranges : List ValueRange) (a b g : Op) (first second
     → ((v : Values) → mapped joined v ≡ mapped second (mapped first v)) → Replaces stage ranges (a ∷ b ∷ []) (Some g) rest
 replaces stage ranges a b g first second joined rest ma mb mg same = record {
   inner = and_from _ _ (ap not ma.inner) (and_from _ true (ap not mb.inner) refl);
+  unread = and_from _ _ (ap not ma.unread) (and_from _ true (ap not mb.unread) refl);
   lighter = lighter a b g ma.heavy mb.heavy mg.light;
   typed = λ h.
       (let t = typed_parts stage a (b ∷ []) h in (

@@ -32,6 +32,7 @@ use Rattle.op_range.proofs.Within.{number_at, nat_le_ℚ}
 use Rattle.op_opt.specs.declared.change.Change.{Change}
 use Rattle.op_opt.specs.JoinShifts.{has_room, used_have_room, sum_below, join_shifts}
 use Rattle.op_opt.specs.Weight.{weight, weight_of}
+use Rattle.op_opt.proofs.Ends.{is_read}
 use Rattle.op_opt.proofs.PassedTests.{chosen, from_not, if_used, all_at}
 use Rattle.op_opt.proofs.Replacing.{IsSound, Replaces, Replacement, At, same_by_agreement}
 
@@ -109,6 +110,7 @@ record IsShift (op : Op) (f : ℕ → ℕ → ℕ) : Type 0 where
   applies : (frame : List ℕ) (position : PixelPosition) (stage : Stage) (v : Values)
       → apply frame position stage op v ≡ shifted (f (bits_at stage)) v
   inner : is_write op ≡ false
+  unread : is_read op ≡ false
   weighs : weight_of op ≡ 64
   follows : (stage : Stage) → may_follow stage op ≡ is_whole stage
   leaves : (stage : Stage) → stage_after stage op ≡ stage
@@ -118,6 +120,7 @@ unfolding apply weight_of may_follow stage_after
 left_is n = record {
   applies = λ frame position stage v. refl;
   inner = refl;
+  unread = refl;
   weighs = refl;
   follows = λ stage. refl;
   leaves =
@@ -129,6 +132,7 @@ unfolding apply weight_of may_follow stage_after
 right_is n = record {
   applies = λ frame position stage v. refl;
   inner = refl;
+  unread = refl;
   weighs = refl;
   follows = λ stage. refl;
   leaves =
@@ -183,6 +187,7 @@ replaces : (stage : Stage) (ranges : List ValueRange) (a b g : Op) (f1 f2 f : �
     → Replaces stage ranges (a ∷ b ∷ []) (Some g) rest
 replaces stage ranges a b g f1 f2 f rest sa sb sg good same = record {
   inner = and_from _ _ (ap not sa.inner) (and_from _ true (ap not sb.inner) refl);
+  unread = and_from _ _ (ap not sa.unread) (and_from _ true (ap not sb.unread) refl);
   lighter = lighter a b g sa.weighs sb.weighs sg.weighs;
   typed = λ h. (
     one_typed stage g (sg.follows stage ∙ sym (sa.follows stage) ∙ (typed_parts stage a (b ∷ []) h).0) (good h),

@@ -79,6 +79,7 @@ replaces : (stage : Stage) (ranges : List ValueRange) (first second : List ℕ) 
     (λ i. slice_index first (slice_index second i))))) rest
 replaces stage ranges first second rest = record {
   inner = refl;
+  unread = refl;
   lighter = lighter first second _;
   typed = typed stage first second;
   same = λ frame position v at.

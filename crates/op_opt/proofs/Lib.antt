@@ -19,9 +19,9 @@ pub mod CancellingPacking
 pub mod Walk
 pub mod Places
 pub mod Normals
+pub mod Ends
 pub mod PutTogether
 pub mod AlongPlaces
-pub mod PeakMultiples
 pub mod PeakSteps
 pub mod PeakFronts
 pub mod PeakTidy

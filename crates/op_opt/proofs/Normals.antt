@@ -19,6 +19,7 @@ use Rattle.op_opt.specs.Normal.{step, next_or, normal_within, normal}
 use Rattle.op_opt.specs.Passes.{change_at}
 use Rattle.op_opt.proofs.Places.{applies_nowhere}
 use Rattle.op_opt.specs.Laws.{IsImproved, EachPassImproves, IsNormalOf, NormalIsReached}
+use Rattle.op_opt.proofs.Ends.{first_index, last_index}
 use Rattle.op_opt.proofs.Replacing.{At, Improves}
 use Rattle.op_opt.proofs.Walk.{first_place_improves, passes_sound, step_improves}
 
@@ -65,6 +66,10 @@ improved ops after list last i = record {
   last = i.last last;
   lighter = i.lighter;
   shorter = i.shorter;
+  ends = record {
+    reads = λ other. first_index other after ∙ i.first refl list.typed other ∙ sym (first_index other ops);
+    writes = λ other. last_index other after ∙ i.final last other ∙ sym (last_index other ops);
+  };
   same = λ frame width rows x row y bytes.
       (let position : PixelPosition = record { width = width; rows = rows; x = x; row = row; y = y } in
       ap (λ values. four (λ k. number values k)) (i.same frame position no_values (start_at ops frame list last bytes)));
@@ -83,6 +88,7 @@ settled ops is list last = record {
   normal = record { list = list; last = last; settled = applies_nowhere ops is };
   lighter = omega arith;
   shorter = omega arith;
+  ends = record { reads = λ other. refl; writes = λ other. refl };
   same = λ frame width rows x row y bytes. refl;
 }
 
@@ -92,6 +98,10 @@ behind ops next after i n = record {
   normal = n.normal;
   lighter = omega (arith, i.lighter, n.lighter);
   shorter = omega (arith, i.shorter, n.shorter);
+  ends = record {
+    reads = λ other. n.ends.reads other ∙ i.ends.reads other;
+    writes = λ other. n.ends.writes other ∙ i.ends.writes other;
+  };
   same = λ frame width rows x row y bytes. n.same frame width rows x row y bytes ∙ i.same frame width rows x row y bytes;
 }
 

@@ -32,7 +32,7 @@ use Rattle.op_opt.specs.Changes.{changed, taking}
 use Rattle.op_opt.specs.JoinMaps.{diagonal, column_of, joined_row, joined_rows, join_maps}
 use Rattle.op_opt.specs.Peak.{Peaked, greatest_of_four, fractions_peak}
 use Rattle.op_opt.proofs.JoiningMaps.{exact_dot, exact_row, row_exact}
-use Rattle.op_opt.proofs.PeakMultiples.{rows_divide, rows_each, rows_positive, size_scaled, one_divides, quotient_positive}
+use Rattle.op_range.proofs.Multiples.{rows_divide, rows_each, rows_positive, size_scaled, one_divides, quotient_positive}
 use Rattle.op_opt.proofs.PeakSteps.{IsPart, Below, peaked, below_of, fractions_after, max_scaled, greatest_scaled, taken_used}
 use Rattle.op_opt.proofs.PeakSteps.{taken_or_zero}
 use Rattle.op_opt.proofs.PeakSteps.{sum_scaled}

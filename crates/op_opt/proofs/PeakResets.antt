@@ -29,8 +29,8 @@ use Rattle.op_opt.specs.ResetUnused.{identity_row, reset_row, reset_index, reset
 use Rattle.op_opt.specs.Peak.{Peaked, greatest_of_four, given_size, fractions_peak}
 use Rattle.op_opt.proofs.PassedTests.{from_not}
 use Rattle.op_opt.proofs.Dropping.{lowest_passes, other_entry, dropped_entry, by_place, one_unused}
-use Rattle.op_opt.proofs.PeakMultiples.{entries_divide, entries_each, entries_positive, rows_divide, rows_each, rows_positive, size_scaled}
-use Rattle.op_opt.proofs.PeakMultiples.{one_divides}
+use Rattle.op_range.proofs.Multiples.{entries_divide, entries_each, entries_positive, rows_divide, rows_each, rows_positive, size_scaled}
+use Rattle.op_range.proofs.Multiples.{one_divides}
 use Rattle.op_opt.proofs.PeakSteps.{Below, peaked, below_of, max_scaled, greatest_scaled, if_both}
 use Rattle.op_opt.proofs.PeakSteps.{sum_scaled}
 use Rattle.op_opt.proofs.PeakFronts.{Eases, any_found, four_part, part_itself, one_fractions}

@@ -29,7 +29,7 @@ use Rattle.op_range.proofs.FractionBounds.{factor_positive}
 use Rattle.op_range.proofs.AnyOfFour.{any_from}
 use Rattle.op_range.proofs.UsedSteps.{index_below}
 use Rattle.op_opt.specs.Peak.{Peaked, greatest_of_four, given_size, fractions_peak, peaked_after}
-use Rattle.op_opt.proofs.PeakMultiples.{divides_on, least_multiple, multiple_right}
+use Rattle.op_range.proofs.Multiples.{divides_on, least_multiple, multiple_right}
 
 -- ---- one state not above another
 -- what is used after one is used after the other

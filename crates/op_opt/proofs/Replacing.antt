@@ -4,6 +4,7 @@ use Rattle.std.proofs.Common.{◌∙◌, ap, arith}
 use Rattle.std.specs.Prelude.{Option, Some, None}
 use Rattle.std.specs.List.{list_all}
 use Rattle.op_list.specs.declared.types.Stage.{Stage}
+use Rattle.op_list.specs.declared.types.Stage.TheVariants.{Start}
 use Rattle.op_list.specs.declared.position.PixelPosition.{PixelPosition}
 use Rattle.op_list.specs.declared.op.Op.{Op}
 use Rattle.op_list.specs.declared.values.Values.{Values}
@@ -29,6 +30,7 @@ use Rattle.op_opt.specs.declared.change.Change.{Change}
 use Rattle.op_opt.specs.Changes.{Rule, with_given, changed}
 use Rattle.op_opt.specs.Weight.{weight}
 use Rattle.op_list.proofs.Typed.{typed_parts, typed_from, typed_fronts}
+use Rattle.op_opt.proofs.Ends.{is_read, first_or, last_or, same_last, not_at_start}
 use Rattle.op_list.proofs.Wholes.{before_other, last_behind, last_before, last_behind_all}
 
 -- values that stand before some operations of a whole list
@@ -47,6 +49,7 @@ ops_of (Some op) = op ∷ []
 -- the operations `old` are taken, and one or none is given in their place
 pub record Replaces (stage : Stage) (ranges : List ValueRange) (old : List Op) (given : Option Op) (rest : List Op) : Type 0 where
   pub inner : list_all (λ op. not (is_write op)) old ≡ true
+  pub unread : list_all (λ op. not (is_read op)) old ≡ true
   pub lighter : weight (ops_of given) < weight old
   pub typed : are_typed stage old ≡ true → (are_typed stage (ops_of given) ≡ true) × (stage_from stage
       (ops_of given) ≡ stage_from stage old)
@@ -69,6 +72,8 @@ IsSound rule = (stage : Stage) (ranges : List ValueRange) (ops : List Op) (chang
 pub record Improves (stage : Stage) (ranges : List ValueRange) (ops after : List Op) : Type 0 where
   pub typed : are_typed stage ops ≡ true → are_typed stage after ≡ true
   pub last : ends_with_write ops ≡ true → ends_with_write after ≡ true
+  pub first : stage ≡ Start → are_typed stage ops ≡ true → (other : Op) → first_or other after ≡ first_or other ops
+  pub final : ends_with_write ops ≡ true → (other : Op) → last_or other after ≡ last_or other ops
   pub lighter : weight after < weight ops
   pub shorter : length after ≤ length ops
   pub same : (frame : List ℕ) (position : PixelPosition) (v : Values) → At stage ranges ops frame v
@@ -117,6 +122,8 @@ improves_parts stage ranges old rest given h = record {
       let new = h.typed parts.0 in
       are_typed-append stage (ops_of given) rest new.0 (subst (λ (s : Stage). are_typed s rest ≡ true) (sym new.1) parts.1));
   last = λ l. last_given given rest (last_behind_all old rest h.inner l);
+  first = λ start t other. absurd (not_at_start stage old rest start (not_empty old (weight (ops_of given)) h.lighter) h.unread t);
+  final = λ l other. same_last other old (ops_of given) rest (last_behind_all old rest h.inner l);
   lighter = omega (arith, h.lighter, weight-append old rest, weight-append (ops_of given) rest);
   shorter = omega (
     arith,
@@ -178,6 +185,8 @@ improves_behind stage ranges op [] after h = absurd (nothing_lighter after h.lig
 improves_behind stage ranges op (next ∷ ops) after h = record {
   typed = λ typed. (let t = typed_parts stage op (next ∷ ops) typed in typed_from stage op after t.0 t.1 (h.typed t.2));
   last = λ l. last_before op after (h.last (tail_last op next ops l));
+  first = λ start t other. refl;
+  final = λ l other. h.final (tail_last op next ops l) op;
   lighter = weight_same op (next ∷ ops) after h.lighter;
   shorter = omega (arith, h.shorter);
   same = λ frame position v at.

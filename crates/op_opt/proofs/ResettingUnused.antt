@@ -132,6 +132,7 @@ rows_replaced : (stage : Stage) (ranges : List ValueRange) (rows : List (List �
 unfolding stage_from stage_after
 rows_replaced stage ranges rows i rest below free is = record {
   inner = refl;
+  unread = refl;
   lighter = rows_lighter rows i below is;
   typed = rows_typed stage rows (reset_row rows i);
   same = λ frame position v at.
@@ -194,6 +195,7 @@ indices_replaced : (stage : Stage) (ranges : List ValueRange) (from : List ℕ) 
 unfolding stage_from stage_after
 indices_replaced stage ranges from i rest below free is = record {
   inner = refl;
+  unread = refl;
   lighter = indices_lighter from i below is;
   typed = indices_typed stage from i;
   same = λ frame position v at.

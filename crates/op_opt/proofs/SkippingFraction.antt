@@ -76,6 +76,7 @@ replaces : (stage : Stage) (ranges : List ValueRange) (to : PixType) (first expa
     → Replaces stage ranges (Convert Rat first ∷ Convert to expand ∷ []) (Some (Convert to false)) rest
 replaces stage ranges to first expand rest whole is = record {
   inner = refl;
+  unread = refl;
   lighter = lighter to first expand;
   typed = typed stage to first expand;
   same = λ frame position v at. same frame position stage to first expand rest v is (at.kind ∙ whole_not_rational stage whole);

@@ -116,6 +116,7 @@ min_replaces : (stage : Stage) (ranges : List ValueRange) (limits : List (Option
 unfolding stage_from stage_after
 min_replaces stage ranges limits i rest below given idle = record {
   inner = refl;
+  unread = refl;
   lighter = min_lighter limits i below given;
   typed = min_typed stage limits i;
   same = λ frame position v at.
@@ -154,6 +155,7 @@ max_replaces : (stage : Stage) (ranges : List ValueRange) (limits : List (Option
 unfolding stage_from stage_after
 max_replaces stage ranges limits i rest below given idle = record {
   inner = refl;
+  unread = refl;
   lighter = max_lighter limits i below given;
   typed = max_typed stage limits i;
   same = λ frame position v at.

@@ -74,6 +74,7 @@ replaces : (stage : Stage) (ranges : List ValueRange) (entries : List (Option â„
 unfolding stage_from stage_after
 replaces stage ranges entries i rest below given free = record {
   inner = refl;
+  unread = refl;
   lighter = lighter entries i below given;
   typed = typed stage entries i;
   same = Î» frame position v at.

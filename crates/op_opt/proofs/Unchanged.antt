@@ -20,6 +20,7 @@ use Rattle.op_list.proofs.Wholes.{last_behind}
 use Rattle.op_range.specs.declared.range.ValueRange.{ValueRange}
 use Rattle.op_range.specs.Used.{is_used, used_from, Agree}
 use Rattle.op_opt.specs.Weight.{weight, weight_of}
+use Rattle.op_opt.proofs.Ends.{is_read}
 use Rattle.op_opt.proofs.Replacing.{Replaces, At, same_by_agreement}
 
 pub no_fraction : (v : Values) (i : ℕ) → are_fractions v ≡ false → fraction v i ≡ nat 0
@@ -84,12 +85,14 @@ unfolding stage_from
 stays stage op is = sym is
 
 -- where the values that it leaves agree with those before it
-pub dropped : (stage : Stage) (ranges : List ValueRange) (op : Op) (rest : List Op) → is_write op ≡ false → stage_after stage op ≡ stage
+pub dropped : (stage : Stage) (ranges : List ValueRange) (op : Op) (rest : List Op) → is_write op ≡ false
+    → is_read op ≡ false → stage_after stage op ≡ stage
     → ((frame : List ℕ) (position : PixelPosition) (v : Values) → At stage ranges (op ∷ rest) frame v
     → Agree (used_from rest) v (apply frame position stage op v))
     → Replaces stage ranges (op ∷ []) None rest
-dropped stage ranges op rest inner same agrees = record {
+dropped stage ranges op rest inner unread same agrees = record {
   inner = and_from _ true (ap not inner) refl;
+  unread = and_from _ true (ap not unread) refl;
   lighter = dropped_lighter op;
   typed = λ h. (typed_none stage, stays stage op same);
   same = λ frame position v at.

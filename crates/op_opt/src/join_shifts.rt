@@ -5,10 +5,9 @@ ghost use Rattle.op_opt.specs.JoinShifts.{join_shifts, has_room, used_have_room}
 ghost use Rattle.op_opt.specs.JoinShifts.{shift_between, sum_below};
 
 use crate::change::{Change, joined};
-use crate::order::is_at_most;
 use frac_math::Frac;
 use op_list::{Op, Stage};
-use op_range::{Ranges, Used, used_from};
+use op_range::{Ranges, Used, is_at_most, used_from};
 
 // Two shifts as one.
 #[tactic(auto, unfolding(crate::specs::JoinShifts::join_shifts))]

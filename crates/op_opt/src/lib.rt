@@ -15,7 +15,6 @@ mod join_shifts;
 mod join_swizzles;
 pub mod laws;
 mod normal_list;
-mod order;
 mod pass;
 mod place;
 mod reset_unused;

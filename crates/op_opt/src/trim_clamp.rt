@@ -7,10 +7,9 @@ ghost use Rattle.op_opt.specs.TrimClamp.{trim_clamp, is_known_at_most};
 
 use crate::change::Change;
 use crate::entries::{is_given, lowest, without};
-use crate::order::is_at_most;
 use frac_math::Frac;
 use op_list::Op;
-use op_range::{Ranges, Used, used_from};
+use op_range::{Ranges, Used, is_at_most, used_from};
 
 // A Min or a Max without the entry of the lowest value that is not used after it, or that lies
 // within the limit before it.

@@ -13,4 +13,5 @@ pub mod Compared
 pub mod Capping
 pub mod Widths
 pub mod Reaching
+pub mod Multiples
 pub mod Examples

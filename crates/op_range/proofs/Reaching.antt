@@ -167,7 +167,7 @@ none_reached stage (first ∷ ops) op w some is small h =
     same_four (λ i. true) (λ i. reaches stage (first ∷ ops) w i) (λ i below. front_reached stage first ops w i small same_first)
 
 -- ---- a whole list
-no_fractions : (stage : Stage) (ops : List Op) (w : Width) (i : ℕ) → has_fractions stage ops ≡ false → own_width_from stage ops w i ≡ 0
+pub no_fractions : (stage : Stage) (ops : List Op) (w : Width) (i : ℕ) → has_fractions stage ops ≡ false → own_width_from stage ops w i ≡ 0
 unfolding has_fractions own_width_from
 no_fractions stage [] w i h = refl
 no_fractions stage (op ∷ ops) w i h =

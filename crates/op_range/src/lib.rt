@@ -17,8 +17,9 @@ mod used;
 mod walk;
 mod width;
 
+pub use numbers::is_at_most;
 pub use range::{Ranges, ValueRange};
 pub use state::{CompRange, StateRange, ranges};
 pub use used::{Used, used_before, used_from};
 pub use walk::{ranges_after, start_ranges};
-pub use width::{fits, width_fault};
+pub use width::{Width, fits, whole_width, width_after, width_fault};

@@ -46,7 +46,8 @@ fn lies_in_full(bound: &Frac, bits: u32) -> bool
     is_at_most(&Frac::whole(0), bound) && is_at_most(bound, &most)
 }
 
-fn is_at_most(a: &Frac, b: &Frac) -> bool
+/// Whether a is at most b.
+pub fn is_at_most(a: &Frac, b: &Frac) -> bool
     ensures { result ≡ is_at_most a.now b.now }
 {
     match a.cmp(b) {

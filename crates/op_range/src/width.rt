@@ -293,8 +293,8 @@ fn swizzled(width: &Width, from: &[u8; 4]) -> Option<Width>
     })
 }
 
-// Whole numbers of so many bits.
-fn whole_width(bits: u32) -> Width
+/// The width of whole numbers of so many bits, which a list begins with for 0 bits.
+pub fn whole_width(bits: u32) -> Width
     requires { bits ≤ 32 }
     ensures { result ≡ whole_width bits }
 {
@@ -330,8 +330,10 @@ fn fractions_width(op: &Op, stage: Stage, width: &Width) -> Option<Width>
     }
 }
 
+/// The width after an operation, with sizes from 2^126 on as 2^126; none where the denominator
+/// reaches 2^126. It takes no memory.
 #[tactic(auto, unfolding(crate::specs::Width::width_after))]
-fn width_after(op: &Op, stage: Stage, width: &Width) -> Option<Width>
+pub fn width_after(op: &Op, stage: Stage, width: &Width) -> Option<Width>
     requires good { are_good stage op.now ≡ true }
     requires positive { 0 < width.now.denominator }
     ensures { result ≡ capped_width (width_after stage op.now width.now) }

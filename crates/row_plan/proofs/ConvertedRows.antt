@@ -19,8 +19,8 @@ use Rattle.op_list.proofs.Stored.{elements_make_frame}
 use Rattle.pix_desc.specs.Shape.{element_counts}
 use Rattle.op_build.specs.ElementType.{element_type}
 use Rattle.op_build.specs.Recipe.{recipe}
-use Rattle.op_build.proofs.Means.{means_target}
-use Rattle.op_build.proofs.Frames.{fills_frames}
+use Rattle.op_build.proofs.recipe.Means.{means_target}
+use Rattle.op_build.proofs.recipe.Frames.{fills_frames}
 use Rattle.row_plan.specs.Evaluated.{IsEvaluated}
 use Rattle.row_plan.proofs.ConvertedPixels.{converted_more}
 

@@ -11,9 +11,9 @@ use Rattle.op_opt.proofs.PeakLaws.{normal_narrow}
 use Rattle.op_build.specs.Codes.{decoded_type}
 use Rattle.op_build.specs.Recipe.{recipe}
 use Rattle.op_build.specs.SideClasses.{side_class, side_classes, IsOneOf}
-use Rattle.op_build.proofs.BoundFrames.{checked_is_there}
-use Rattle.op_build.proofs.Frames.{is_whole}
-use Rattle.op_build.proofs.RecipeTyped.{recipe_is_list}
+use Rattle.op_build.proofs.bounds.Frames.{checked_is_there}
+use Rattle.op_build.proofs.recipe.Frames.{is_whole}
+use Rattle.op_build.proofs.recipe.Typed.{recipe_is_list}
 use Rattle.row_plan.specs.Evaluated.{side_at, IsTableSide, TablePairsFit, TablePairsHavePlans}
 use Rattle.row_plan.proofs.NamedMatrices.{named_is_matrix}
 use Rattle.row_plan.proofs.TableClasses.{side_at_there, few_bits_at}

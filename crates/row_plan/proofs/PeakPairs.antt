@@ -35,12 +35,12 @@ use Rattle.op_build.specs.Codes.{decoded_type}
 use Rattle.op_build.specs.Recipe.{only_if, channel_slots, missing_codes, slot_channels, spare_zeros, are_plain, over_three, decode, convert, encode, recipe}
 use Rattle.op_build.specs.Recipe.{to_codes_by}
 use Rattle.op_build.specs.SideClasses.{SideClass, side_class, side_classes, IsOneOf}
-use Rattle.op_build.proofs.ElementTypes.{has_type}
-use Rattle.op_build.proofs.Decode.{decode_stage, decoded_type-whole}
-use Rattle.op_build.proofs.RecipeTyped.{recipe_is_list}
-use Rattle.op_build.proofs.ClassTests.{class_levels, source_ops, target_rows_ops}
-use Rattle.op_build.proofs.BoundPairs.{every_one, then_there, class_list, convert_classes, least_limits, greatest_limits}
-use Rattle.op_build.proofs.BoundRuns.{recipe_parts}
+use Rattle.op_build.proofs.shape.ElementTypes.{has_type}
+use Rattle.op_build.proofs.decode.Typed.{whole_typed}
+use Rattle.op_build.proofs.recipe.Typed.{recipe_is_list}
+use Rattle.op_build.proofs.bounds.ClassTests.{class_levels, source_ops, target_rows_ops}
+use Rattle.op_build.proofs.bounds.Pairs.{every_one, then_there, class_list, convert_classes, least_limits, greatest_limits}
+use Rattle.op_build.proofs.bounds.Runs.{recipe_parts}
 use Rattle.op_opt.specs.Peak.{Peaked, given_size, start_peaked, peak_from, peak}
 use Rattle.op_opt.proofs.PeakBounds.{keeps_stage, leaves_whole, whole_list, whole_no_fractions, whole_front, from_whole, no_peak, whole_peaked}
 use Rattle.op_opt.proofs.PeakBounds.{small_after, small_from, IsUnder, small_along, dither_step, AreLimits, low_under, max_step, min_step}
@@ -233,7 +233,7 @@ converting_low pair s listed =
     subst (λ (c : List Op). are_typed (Typed elem) (c ++ rest) ≡ true → peak_from (Typed elem) (c ++ rest) s < 2 ^ 126)
     (sym (convert_classes pair)) (λ typed.
     from_whole (Typed elem) (bits_of from.rgb) (ops ++ rest) s
-    (whole_no_fractions elem (decoded_type-whole pair.from.desc listed.valid.from)) listed.few (fits_type from.rgb) typed
+    (whole_no_fractions elem (whole_typed pair.from.desc listed.valid.from).whole) listed.few (fits_type from.rgb) typed
     (λ left left_typed under. classes_low from to pair.dither (least_limits pair) (greatest_limits pair) rest left listed.from
     (record {
       listed = listed.to;
@@ -248,7 +248,7 @@ recipe_from_low : (pair : Pair) → IsListed pair → peak_from Start (recipe pa
 recipe_from_low pair listed =
     let d = decode pair.from.desc in
     let rest = convert pair ++ encode pair.to.desc in
-    let stage = decode_stage pair.from.desc listed.valid.from in
+    let stage = (whole_typed pair.from.desc listed.valid.from).stage in
     let typed : are_typed Start (d ++ rest) ≡ true =
     subst (λ (ops : List Op). are_typed Start ops ≡ true) (recipe_parts pair) (recipe_is_list pair listed.valid).typed in
     let behind : are_typed (Typed (decoded_type pair.from.desc)) rest ≡ true =

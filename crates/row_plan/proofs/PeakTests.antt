@@ -4,7 +4,7 @@ use Rattle.std.specs.List.{list_all}
 use Rattle.op_list.specs.declared.op.Op.TheVariants.{Dither}
 use Rattle.op_build.specs.Recipe.{to_codes_by}
 use Rattle.op_build.specs.SideClasses.{SideClass}
-use Rattle.op_build.proofs.ClassTests.{class_levels, source_ops, target_rows_ops, test_then}
+use Rattle.op_build.proofs.bounds.ClassTests.{class_levels, source_ops, target_rows_ops, test_then}
 use Rattle.op_opt.specs.Peak.{Peaked}
 use Rattle.op_opt.proofs.PeakBounds.{small_after, small_from, whole_peaked}
 

@@ -15,7 +15,7 @@ use Rattle.pix_desc.proofs.FramePlanes.{IsByteOf, find_byte}
 use Rattle.pix_desc.proofs.FrameExists.{frame_length_is}
 use Rattle.pix_meaning.specs.Pairs.{component_count}
 use Rattle.pix_meaning.specs.Values.{entry_byte, entry_component, source_component}
-use Rattle.op_build.proofs.Frames.{palette_frame}
+use Rattle.op_build.proofs.recipe.Frames.{palette_frame}
 use Rattle.row_plan.specs.Slices.{slice_of}
 use Rattle.row_plan.proofs.SlicePlanes.{plane_of_slice, behind_slice, planes_in_frame, slices_are_frames}
 

@@ -9,7 +9,7 @@ use Rattle.op_list.specs.declared.op.Op.{Op}
 use Rattle.op_list.specs.declared.op.Op.TheVariants.{Write}
 use Rattle.op_build.specs.ElementType.{element_type}
 use Rattle.op_build.specs.Recipe.{recipe}
-use Rattle.op_build.proofs.Frames.{before_write, last_write, recipe_ends}
+use Rattle.op_build.proofs.recipe.Frames.{before_write, last_write, recipe_ends}
 
 last_of : (ops : List Op) (op : Op) → slice_get (ops ++ op ∷ []) (length (ops ++ op ∷ []) - 1) ≡ Some op
 last_of [] op = refl

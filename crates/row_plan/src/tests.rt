@@ -141,6 +141,75 @@ const CASES: [Case<'static>; 6] = [
     },
 ];
 
+// Whether the plan of two sides of the table has its stamp and this text.
+fn has_text(alloc: Global, from: Side, to: Side, dither: u8, text: &str) -> bool
+    requires from { IsTableSide from }
+    requires to { IsTableSide to }
+{
+    if dither > 4 {
+        return false;
+    }
+    match plan(alloc, &Pair { from, to, dither }, 7) {
+        Ok(plan) => plan.stamp() == 7 && plan.text() == text,
+        Err(_) => false,
+    }
+}
+
+// Two formats, whose matrix is bt601 and whose luma and chroma are of full range, the dither and
+// the text of their plan.
+const TEXTS: [(&str, &str, u8, &str); 6] = [
+    (
+        "gray16le",
+        "gray",
+        0,
+        "read u16 1 0 0 0\nconvert rat\nlinear 0: 1/257 0 0 0 0\ndither 0\nmin 0=255\n\
+         convert u8\nwrite u8 1 0 0 0\n",
+    ),
+    (
+        "rgb24",
+        "bgr24",
+        0,
+        "read u8 3 0 0 0\nswizzle 2 1 0 3\nwrite u8 3 0 0 0\n",
+    ),
+    (
+        "rgb24",
+        "0rgb",
+        4,
+        "read u8 3 0 0 0\nswizzle 0 0 1 2\nclear 0=0\nwrite u8 4 0 0 0\n",
+    ),
+    (
+        "gray",
+        "gray16le",
+        2,
+        "read u8 1 0 0 0\nconvert u16 expand\nwrite u16 1 0 0 0\n",
+    ),
+    (
+        "x2rgb10le",
+        "rgb565be",
+        3,
+        "read u32 1 0 0 0\nunpack 2 10 10 10\nswizzle 1 2 3 3\nconvert rat\n\
+         linear 0: 1/33 0 0 0 0; 1: 0 21/341 0 0 0; 2: 0 0 1/33 0 0\ndither 3\n\
+         min 0=31 1=63 2=31\nconvert u16\npack 5 6 5 0\nswap\nwrite u16 1 0 0 0\n",
+    ),
+    (
+        "pal8",
+        "gray",
+        0,
+        "read pal8\nconvert rat\nlinear 0: 299/1000 587/1000 57/500 0 0\ndither 0\n\
+         min 0=255\nconvert u8\nwrite u8 1 0 0 0\n",
+    ),
+];
+
+#[test]
+fn shows_normal_lists(rt: HostRuntime) -> Result<(), Fail> {
+    for (from, to, dither, text) in TEXTS {
+        let source = side_of(from, "bt601", Range::Full).ok_or("a side")?;
+        let target = side_of(to, "bt601", Range::Full).ok_or("a side")?;
+        assert!(rt; has_text(rt.alloc(), source, target, dither, text), "{from} {to}");
+    }
+    Ok(())
+}
+
 #[test]
 fn converts_slices_as_the_reference(rt: HostRuntime) -> Result<(), Fail> {
     for case in &CASES {

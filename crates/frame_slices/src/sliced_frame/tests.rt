@@ -216,8 +216,8 @@ fn two_workers_share_each_frame(rt: HostRuntime) -> Result<(), Fail> {
         workers: 2,
     };
     let gate = Turnstile::new();
-    for number in 0..300 {
-        let input = [number as u8, 1, 2, 3];
+    for number in 0..300u32 {
+        let input = [(number % 256) as u8, 1, 2, 3];
         let got = slices_converted(&rt, rt.alloc(), gray, gray, shape, &gate, &input)?;
         let (_, bytes) = got.ok_or("a frame")?;
         assert_eq!(rt; bytes.as_slice(), input.as_slice(), "{number}");

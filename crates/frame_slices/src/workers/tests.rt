@@ -1,9 +1,11 @@
 // Two hands that take turns over three slices, by hand.
-ghost use Rattle.std.specs.Prelude.{◌≡◌, ◌<◌, All, IfOk, Some, None, false, true, map};
-ghost use Rattle.slice_claim.specs.Machine.{fresh};
-ghost use Rattle.slice_claim.specs.Board.{AreNumbered};
+ghost use Rattle.std.specs.Prelude.{◌≡◌, ◌<◌, All, IfOk, Some, None, false, true, length, map};
+ghost use Rattle.slice_claim.specs.Machine.{IsFree, fresh};
+ghost use Rattle.slice_claim.specs.Board.{job_count, hand_state, origins_of, IsHandOf, IsJobOf, AreNumbered};
 ghost use Rattle.pix_desc.specs.Layouts.{IsValid};
 ghost use Rattle.row_plan.specs.Evaluated.{IsTableSide};
+ghost use Rattle.row_plan.specs.Jobs.{job_number, job_origin, BeginsWith};
+ghost use Rattle.frame_slices.specs.Workers.{HasWorked};
 
 use super::*;
 use crate::sides::side_of;
@@ -19,8 +21,8 @@ fn job(alloc: Global, pair: &Pair, number: u32) -> Result<SliceJob, AllocError>
     requires from { IsValid pair.now.from.desc }
     requires to { IsValid pair.now.to.desc }
     requires number { number < 3 }
-    ensures number { IfOk result (λ job. job.number ≡ number) }
-    ensures pair { IfOk result (λ job. BeginsWith pair.now (job_origin job)) }
+    ensures number { IfOk result (λ made. made.number ≡ number) }
+    ensures pair { IfOk result (λ made. BeginsWith pair.now (job_origin made)) }
 {
     let input = vec![in alloc; number as u8 + 7; frame_len(&pair.from.desc, 1, 1) as usize]?;
     let output = vec![in alloc; 0u8; frame_len(&pair.to.desc, 1, 1) as usize]?;
@@ -32,13 +34,14 @@ fn three_jobs(alloc: Global, pair: &Pair) -> Result<Vec<SliceJob>, AllocError>
     requires to { IsValid pair.now.to.desc }
     ensures count { IfOk result (λ jobs. length jobs.items ≡ 3) }
     ensures numbered { IfOk result (λ jobs. AreNumbered job_number jobs.items) }
-    ensures pair { IfOk result (λ jobs. All (BeginsWith pair.now) (map job_origin jobs.items)) }
+    ensures pair { IfOk result
+        (λ jobs. All (λ made. BeginsWith pair.now (job_origin made)) jobs.items) }
 {
-    Ok(vec![in alloc;
-        job(alloc, pair, 0)?,
-        job(alloc, pair, 1)?,
-        job(alloc, pair, 2)?,
-    ]?)
+    let mut jobs = Vec::new(alloc);
+    for number in 0..3 {
+        jobs.push(job(alloc, pair, number)?)?;
+    }
+    Ok(jobs)
 }
 
 // The hand has drawn a slice, and its share is as it was.
@@ -115,7 +118,7 @@ fn converted(
         to,
         dither: 0,
     };
-    let Ok(plan) = plan(alloc, &pair) else {
+    let Ok(plan) = plan(alloc, &pair, 0) else {
         return Ok(None);
     };
     let (board, mut hand) = Board::new(alloc, three_jobs(alloc, &pair)?, 2)?;

@@ -1,7 +1,7 @@
 use Rattle.std.proofs.Common.{◌∙◌, sym, refl, arith}
 use Rattle.pix_meaning.specs.Channels.{channel_levels}
 use Rattle.op_build.specs.Recipe.{from_codes}
-use Rattle.op_build.proofs.LevelSizes.{small_levels}
+use Rattle.op_build.proofs.convert.LevelSizes.{small_levels}
 use Rattle.op_build.proofs.code_values.from_codes.Goals as goal
 
 pub value_step-requires : goal.value_step-requires

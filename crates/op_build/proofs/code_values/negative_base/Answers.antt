@@ -1,5 +1,5 @@
 use Rattle.std.proofs.Common.{refl}
-use Rattle.op_build.proofs.LevelSizes.{negative_there}
+use Rattle.op_build.proofs.convert.LevelSizes.{negative_there}
 use Rattle.op_build.proofs.code_values.negative_base.Goals as goal
 
 pub unwrap-requires : goal.unwrap-requires

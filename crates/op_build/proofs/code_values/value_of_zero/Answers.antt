@@ -1,4 +1,4 @@
-use Rattle.op_build.proofs.LevelSizes.{constant_fits}
+use Rattle.op_build.proofs.convert.LevelSizes.{constant_fits}
 use Rattle.op_build.proofs.code_values.value_of_zero.Goals as goal
 
 pub quotient-requires : goal.quotient-requires

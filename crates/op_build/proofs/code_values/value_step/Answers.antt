@@ -1,4 +1,4 @@
-use Rattle.op_build.proofs.LevelSizes.{inverse_fits}
+use Rattle.op_build.proofs.convert.LevelSizes.{inverse_fits}
 use Rattle.op_build.proofs.code_values.value_step.Goals as goal
 
 pub quotient-requires : goal.quotient-requires

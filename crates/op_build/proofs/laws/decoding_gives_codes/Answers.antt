@@ -1,4 +1,4 @@
-use Rattle.op_build.proofs.Decode.{gives_codes}
+use Rattle.op_build.proofs.decode.Codes.{gives_codes}
 use Rattle.op_build.proofs.laws.decoding_gives_codes.Goals as goal
 
 pub returns : goal.returns

@@ -1,4 +1,4 @@
-use Rattle.op_build.proofs.Decode.{whole_typed}
+use Rattle.op_build.proofs.decode.Typed.{whole_typed}
 use Rattle.op_build.proofs.laws.decoding_is_whole.Goals as goal
 
 pub returns : goal.returns

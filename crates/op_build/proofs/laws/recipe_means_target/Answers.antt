@@ -1,4 +1,4 @@
-use Rattle.op_build.proofs.Means.{means_target}
+use Rattle.op_build.proofs.recipe.Means.{means_target}
 use Rattle.op_build.proofs.laws.recipe_means_target.Goals as goal
 
 pub returns : goal.returns

@@ -1,7 +1,7 @@
 use Rattle.std.proofs.Common.{◌≡◌, ◌++◌, OnOk, refl, subst}
 use Rattle.op_build.specs.Recipe.{recipe}
 use Rattle.op_build.specs.Steps.{operations}
-use Rattle.op_build.proofs.Fronts.{are_lists}
+use Rattle.op_build.proofs.recipe.Typed.{are_lists}
 use Rattle.op_build.proofs.list.append_recipe.Goals as goal
 
 pub append_steps-requires : goal.append_steps-requires

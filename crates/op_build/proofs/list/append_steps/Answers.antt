@@ -1,5 +1,5 @@
 use Rattle.std.proofs.Common.{sym}
-use Rattle.op_build.proofs.StepLists.{next_is_list, one_step_more}
+use Rattle.op_build.proofs.recipe.StepLists.{next_is_list, one_step_more}
 use Rattle.op_build.proofs.list.append_steps.Goals as goal
 
 pub append_step-requires : goal.append_step-requires

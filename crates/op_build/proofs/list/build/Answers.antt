@@ -1,7 +1,7 @@
 use Rattle.std.proofs.Common.{sym, subst}
 use Rattle.op_build.specs.Meaning.{MeansTargetRows}
-use Rattle.op_build.proofs.Frames.{is_whole}
-use Rattle.op_build.proofs.Means.{means_target}
+use Rattle.op_build.proofs.recipe.Frames.{is_whole}
+use Rattle.op_build.proofs.recipe.Means.{means_target}
 use Rattle.op_build.proofs.list.build.Goals as goal
 
 pub returns-clause-whole : goal.returns-clause-whole

@@ -5,7 +5,7 @@ use Rattle.pix_meaning.specs.Pairs.{is_rgb}
 use Rattle.op_list.specs.declared.op.Op.TheVariants.{Dither, Linear, Min, Max}
 use Rattle.pix_meaning.specs.Channels.{channel_depth}
 use Rattle.op_build.specs.Recipe.{convert, to_codes, over_three, limits}
-use Rattle.op_build.proofs.StepLists.{operations-if-if}
+use Rattle.op_build.proofs.recipe.StepLists.{operations-if-if}
 use Rattle.op_build.proofs.steps.convert.Goals as goal
 
 pub returns : goal.returns

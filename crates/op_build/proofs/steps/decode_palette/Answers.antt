@@ -1,5 +1,5 @@
 use Rattle.std.proofs.Common.{sym}
-use Rattle.op_build.proofs.DecodePalette.{decode_is}
+use Rattle.op_build.proofs.decode.Palette.{decode_is}
 use Rattle.op_build.proofs.steps.decode_palette.Goals as goal
 
 pub returns : goal.returns

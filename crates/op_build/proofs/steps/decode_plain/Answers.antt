@@ -3,8 +3,8 @@ use Rattle.op_list.specs.declared.op.Op.TheVariants.{Read, SwapBytes, Clear, Swi
 use Rattle.op_build.specs.Recipe.{split, channel_slots, missing_codes}
 use Rattle.pix_desc.specs.Shape.{element_counts}
 use Rattle.op_build.specs.ElementType.{element_type, is_swapped}
-use Rattle.op_build.proofs.DecodePlain.{decode_is}
-use Rattle.op_build.proofs.StepLists.{operations-between}
+use Rattle.op_build.proofs.decode.Plain.{decode_is}
+use Rattle.op_build.proofs.recipe.StepLists.{operations-between}
 use Rattle.op_build.proofs.steps.decode_plain.Goals as goal
 
 pub returns : goal.returns

@@ -3,7 +3,7 @@ use Rattle.op_list.specs.declared.op.Op.TheVariants.{SwapBytes, Write}
 use Rattle.op_build.specs.Recipe.{encode}
 use Rattle.pix_desc.specs.Shape.{element_counts}
 use Rattle.op_build.specs.ElementType.{is_swapped, element_type}
-use Rattle.op_build.proofs.StepLists.{operations-if}
+use Rattle.op_build.proofs.recipe.StepLists.{operations-if}
 use Rattle.op_build.proofs.steps.encode.Goals as goal
 
 pub returns : goal.returns

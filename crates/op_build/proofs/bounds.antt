@@ -1,0 +1,5 @@
+pub mod ClassTests
+pub mod Classes
+pub mod Pairs
+pub mod Runs
+pub mod Frames

@@ -1,0 +1,4 @@
+pub mod LevelSizes
+pub mod Steps
+pub mod Clamp
+pub mod Coded

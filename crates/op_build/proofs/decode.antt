@@ -1,0 +1,5 @@
+pub mod Runs
+pub mod Plain
+pub mod Palette
+pub mod Codes
+pub mod Typed

@@ -1,0 +1,4 @@
+pub mod Runs
+pub mod Packed
+pub mod Slots
+pub mod Elements

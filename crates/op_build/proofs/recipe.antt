@@ -1,0 +1,4 @@
+pub mod StepLists
+pub mod Typed
+pub mod Means
+pub mod Frames
