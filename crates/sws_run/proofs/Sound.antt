@@ -130,7 +130,8 @@ pair_at sides (Ok source) (Ok target) sound from to = pair_found sides source ta
 pub sound_pair : (sides : Sides) → AreSides sides → IfOk (pair_between sides) IsTablePair
 sound_pair sides sound = pair_at sides sides.source.format sides.target.format sound sound.source.known sound.target.known
 
-making_at : (asked : Generate) (pair : Result Pair Ended) → IsMaking asked → IfOk pair IsTablePair → IfOk (making_with asked pair) IsSoundMaking
+making_at : (asked : Generate) (pair : Result Pair Ended) → IsMaking asked → IfOk pair IsTablePair
+    → IfOk (making_with asked pair) IsSoundMaking
 making_at asked (Err refusal) sound is = tt
 making_at asked (Ok pair) sound is =
     record { pair = is; workers = omega (arith, sound.workers_least); slice = omega (arith, sound.slice_least) }

@@ -19,7 +19,9 @@ made_length pair = frame_length pair.from.desc 512 512
 
 -- frame k of the four that are made, one behind the other
 abbrev pub made_frame : Making → ℕ → List ℕ
-made_frame making k = take (made_length making.pair) (drop (k * made_length making.pair) (generated making.seed (4 * made_length making.pair)))
+made_frame making k =
+    let n = made_length making.pair in
+    take n (drop (k * n) (generated making.seed (4 * n)))
 
 -- slices of this size and these formats hold such a frame
 pub record IsFrameMade (making : Making) (whole : Place) : Type 0 where

@@ -75,8 +75,8 @@ fn read_stream_frame<In: Source>(input: &mut In, frame: &mut SlicedFrame) -> Res
     }
 }
 
-/// Reads the next frame of an input of this form, whose bytes the slices then hold, or finds the input at
-/// its end.
+/// Reads the next frame of an input of this form, whose bytes the slices then hold, or finds the
+/// input at its end.
 pub fn read_frame<In: Source>(
     form: Form,
     input: &mut In,
@@ -84,7 +84,8 @@ pub fn read_frame<In: Source>(
 ) -> Result<Next, LineEnd>
     requires { 0 < source_size frame.old }
     ensures next { IfOk result
-        (ReadsNext form (In.shown input.old) (In.shown input.new) (source_size frame.old) (source_held frame.new)) }
+        (ReadsNext form (In.shown input.old) (In.shown input.new)
+        (source_size frame.old) (source_held frame.new)) }
     ensures fault { IfErr result (λ end. IfSome (line_fault end)
         (λ fault. IfSome (In.shown input.old).bytes (λ bytes.
         piece_cut form (source_size frame.old) bytes ≡ Faulty fault))) }

@@ -27,7 +27,8 @@ const LINES_ROOM: usize = 96;
 // Reads a frame of a generator, which has so many bytes left.
 fn make_frame(generator: &mut Generator, frame: &mut SlicedFrame)
     requires some { 0 < source_size frame.old }
-    requires enough { source_size frame.old ≤ length (generated generator.old.state generator.old.left) }
+    requires enough { source_size frame.old
+        ≤ length (generated generator.old.state generator.old.left) }
     ensures made { generated generator.old.state generator.old.left
         ≡ source_held frame.new ++ generated generator.new.state generator.new.left }
     ensures size { length (source_held frame.new) ≡ source_size frame.old }

@@ -28,7 +28,8 @@ returns-in-Ok-Whole-clause-next g c =
     let line = rw c.in-Ok-Frame.field-0-is at c.in-Ok-Frame.ensures.line in
     let taken = rw c.in-Ok-Whole.field-0-is at c.in-Ok-Whole.ensures.taken in
     told_then old.bytes mid.bytes new.bytes HasLine (λ x y. x ≡ frame ++ y) (TakesFrame Y4m size frame)
-    (λ x y z l e. of_size Y4m size frame x z whole (whole_behind Y4m l.size x y z frame l.is l.behind e)) (line_told old mid (line refl)) (told_takes mid new frame taken)
+    (λ x y z l e. of_size Y4m size frame x z whole (whole_behind Y4m l.size x y z frame l.is l.behind e))
+    (line_told old mid (line refl)) (told_takes mid new frame taken)
 
 pub returns-in-Ok-End-read-clause-fault : goal.returns-in-Ok-End-read-clause-fault
 returns-in-Ok-End-read-clause-fault g c =
@@ -77,5 +78,6 @@ returns-in-Err-read-clause-read_fault g c =
     let small : n < length frame = part.1 in
     let long : length (take n frame) ≡ n = length-take-le n frame (omega (arith, small)) in
     told_then old.bytes mid.bytes new.bytes HasLine (λ x y. x ≡ take n frame ++ y) (TakesPiece Y4m size)
-    (λ x y z l e. part_behind Y4m l.size n x y z (take n frame) size l.is l.behind e long (omega (arith, small, whole))) (line_told old mid (line refl))
+    (λ x y z l e. part_behind Y4m l.size n x y z (take n frame) size l.is l.behind e long (omega (arith, small, whole)))
+    (line_told old mid (line refl))
     (told_takes mid new (take n frame) part.2)

@@ -85,7 +85,8 @@ returns-in-Err-write_frame-clause-write_fault g c =
     let target = target_held c.in-Ok.converted in
     let fits = subst (IsFrameFor converter) (sym c.read_frame.ensures.whole) c.loop-done.invariant.fits in
     let is = converted_by converter c.read_frame.new.frame.whole frame target fits c.in-Ok.ensures.target in
-    let next = subst (λ n. IfTold (g.In.Source.shown c.loop-done.input).bytes (g.In.Source.shown c.read_frame.new.input).bytes (TakesFrame converter.source_form n frame))
+    let next = subst (λ n. IfTold (g.In.Source.shown c.loop-done.input).bytes (g.In.Source.shown c.read_frame.new.input).bytes
+    (TakesFrame converter.source_form n frame))
     (held_by converter c.loop-done.frame c.loop-done.invariant.fits) (rw c.in-Ok-Frame.field-0-is at c.in-Ok-Frame.ensures.next) in
     let has = has_text converter size k frame a (g.In.Source.shown c.loop-done.input).bytes
     (g.In.Source.shown c.read_frame.new.input).bytes c.loop-done-test.true c.loop-done.invariant.place next in
@@ -109,7 +110,8 @@ loop-done-preserved g c =
     let target = target_held c.in-Ok.converted in
     let fits = subst (IsFrameFor converter) (sym c.read_frame.ensures.whole) c.loop-done.invariant.fits in
     let is = converted_by converter c.read_frame.new.frame.whole frame target fits c.in-Ok.ensures.target in
-    let next = subst (λ n. IfTold (g.In.Source.shown c.loop-done.input).bytes (g.In.Source.shown c.read_frame.new.input).bytes (TakesFrame converter.source_form n frame))
+    let next = subst (λ n. IfTold (g.In.Source.shown c.loop-done.input).bytes (g.In.Source.shown c.read_frame.new.input).bytes
+    (TakesFrame converter.source_form n frame))
     (held_by converter c.loop-done.frame c.loop-done.invariant.fits) (rw c.in-Ok-Frame.field-0-is at c.in-Ok-Frame.ensures.next) in
     let has = has_text converter size k frame a b d c.loop-done-test.true c.loop-done.invariant.place next in
     let text = rw (text_is converter frame target is) at c.in-Ok-write_frame.ensures.written in

@@ -21,7 +21,8 @@ returns-in-Ok-Report-clause-answer g c =
     let k0 = g.Out.Sink.shown c.args.output.now in
     let k1 = g.Out.Sink.shown c.write_report.new.output in
     let value = rw c.in-Ok-Report.field-0-is at c.in-Ok-Report.ensures.value in
-    let asked : asked_by (map string_bytes c.args.words.now) ≡ Ok (request.Report c.in-Ok-Report.report) = ap request_of c.in-Ok.ensures.task ∙ sym value in
+    let asked : asked_by (map string_bytes c.args.words.now) ≡ Ok (request.Report c.in-Ok-Report.report) =
+    ap request_of c.in-Ok.ensures.task ∙ sym value in
     subst (λ a. GivesAnswer a s s k0 k1 c.write_report.result) (sym asked) (c.write_report.ensures.answer s)
 
 pub returns-in-Ok-Report-clause-write_fault : goal.returns-in-Ok-Report-clause-write_fault
@@ -30,7 +31,8 @@ returns-in-Ok-Report-clause-write_fault g c =
     let k0 = g.Out.Sink.shown c.args.output.now in
     let k1 = g.Out.Sink.shown c.write_report.new.output in
     let value = rw c.in-Ok-Report.field-0-is at c.in-Ok-Report.ensures.value in
-    let asked : asked_by (map string_bytes c.args.words.now) ≡ Ok (request.Report c.in-Ok-Report.report) = ap request_of c.in-Ok.ensures.task ∙ sym value in
+    let asked : asked_by (map string_bytes c.args.words.now) ≡ Ok (request.Report c.in-Ok-Report.report) =
+    ap request_of c.in-Ok.ensures.task ∙ sym value in
     subst (λ a. GivesWriteFault a s s k0 k1 c.write_report.result) (sym asked) (c.write_report.ensures.write_fault s)
 
 pub returns-in-Ok-Report-clause-complete : goal.returns-in-Ok-Report-clause-complete
