@@ -18,6 +18,9 @@ use Rattle.y4m_io.specs.declared.header.Header.{Header}
 use Rattle.y4m_io.specs.HeaderLine.{HeaderLine, header_cut}
 use Rattle.sws_run.specs.declared.request.Input.TheVariants as input
 use Rattle.std.specs.Io.KnownBytes.{Consumes}
+use Rattle.frame_slices.specs.declared.frame_slice.Place.{Place}
+use Rattle.frame_slices.specs.declared.sliced_frame.SlicedFrame.{SlicedFrame}
+use Rattle.pix_desc.specs.Frame.{frame_length}
 use Rattle.pix_io.specs.Shown.{Shown}
 use Rattle.y4m_io.specs.declared.fault.LineEnd.{LineEnd}
 use Rattle.y4m_io.specs.declared.fault.LineEnd.TheVariants as line
@@ -26,8 +29,14 @@ use Rattle.y4m_io.specs.Reading as reading
 use Rattle.y4m_io.proofs.LineShapes.{frame_line_cut-size, frame_line_cut-unfinished, header_cut-size, header_cut-unfinished}
 use Rattle.sws_run.specs.Cut.{Whole, Faulty, front_cut, piece_behind, piece_cut}
 use Rattle.sws_run.specs.Frames.{IfTold, IsBehind, IsShort, IsShortOf, TakesFrame, TakesPiece, TakesHeader, TakesHeaderPart}
+use Rattle.sws_run.specs.Frames.{source_held, source_size}
 use Rattle.sws_run.proofs.Places.{behind_then}
 use Rattle.sws_run.proofs.Told.{some_map}
+
+-- the source frame that slices hold has the size of a frame
+pub held_size : (old new : SlicedFrame) → length (source_held new) ≡ source_size new → new.whole ≡ old.whole
+    → length (source_held new) ≡ source_size old
+held_size old new long same = long ∙ ap (λ (whole : Place). frame_length whole.source whole.width whole.rows) same
 
 -- ---- pieces
 
@@ -46,7 +55,7 @@ piece_few front size bytes short = grind (arith, nat_tests, short)
 -- a whole frame behind its line
 pub whole_behind : (form : Form) (front : ℕ) (bytes mid rest frame : List ℕ) → front_cut form bytes ≡ Ok (Some front)
     → IsBehind front bytes mid → mid ≡ frame ++ rest
-    → TakesFrame form frame bytes rest
+    → TakesFrame form (length frame) frame bytes rest
 whole_behind form front bytes mid rest frame is behind same =
     let size : length mid ≡ length frame + length rest = ap length same ∙ length-append frame rest in
     let fits : front + length frame ≤ length bytes = omega (arith, behind.within, ap length behind.left, length-drop front bytes, size) in
@@ -59,6 +68,11 @@ whole_behind form front bytes mid rest frame is behind same =
           ∙ ap (λ (b : List ℕ). Whole (record { bytes = b; size = front + length frame })) taken,
       behind_then front (length frame) bytes mid rest behind here,
     )
+
+-- its size is the one that was asked for
+pub of_size : (form : Form) (size : ℕ) (frame bytes rest : List ℕ) → length frame ≡ size → TakesFrame form (length frame) frame bytes rest
+    → TakesFrame form size frame bytes rest
+of_size form size frame bytes rest long = subst (λ n. TakesFrame form n frame bytes rest) long
 
 -- the input ends in a frame behind its line
 pub short_behind : (form : Form) (front size : ℕ) (bytes mid : List ℕ) → front_cut form bytes ≡ Ok (Some front) → IsBehind front bytes mid
@@ -101,7 +115,8 @@ raw_front (byte ∷ bytes) some = refl
 all_left : (bytes : List ℕ) → IsBehind 0 bytes bytes
 all_left bytes = record { within = omega arith; left = refl }
 
-pub raw_whole : (frame bytes rest : List ℕ) → 0 < length frame → bytes ≡ frame ++ rest → TakesFrame Raw frame bytes rest
+pub raw_whole : (frame bytes rest : List ℕ) → 0 < length frame → bytes ≡ frame ++ rest
+    → TakesFrame Raw (length frame) frame bytes rest
 raw_whole frame bytes rest some same =
     let more : 0 < length bytes = omega (arith, ap length same, length-append frame rest) in
     whole_behind Raw 0 bytes bytes rest frame (raw_front bytes more) (all_left bytes) same

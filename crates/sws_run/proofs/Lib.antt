@@ -4,6 +4,7 @@ pub mod FormatLines
 pub mod Fronts
 pub mod Last
 pub mod Lifts
+pub mod Made
 pub mod Opened
 pub mod Parts
 pub mod Places

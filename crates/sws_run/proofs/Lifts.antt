@@ -1,7 +1,7 @@
 -- From the frames of an input to the whole: the header of the input, and that of the output, stand before them.
 use Rattle.std.proofs.Common.{◌≡◌, ℕ, ◌+◌, ◌-◌, ◌<◌, ◌≤◌, List, [], ◌∷◌, ◌++◌, length, refl, sym, ap, ◌∙◌, arith, subst, map}
 use Rattle.std.proofs.Common.{take, drop, IfSome, Result, Ok, Err, OnErr, length-append, length-drop}
-use Rattle.std.proofs.Common.{inl}
+use Rattle.std.proofs.Common.{inl, inr, ◌⊎◌}
 use Rattle.std.proofs.lemmas.Bool.Decides.{nat_tests}
 use Rattle.std.proofs.Math.Seq.{take-append-add}
 use Rattle.std.proofs.lemmas.List.{take-append-le}
@@ -31,8 +31,8 @@ use Rattle.sws_run.specs.Cut.{source_length, frames_cut, most_frames, frames_wit
 use Rattle.sws_run.specs.Output.{Output, header_of, header_in, frame_text, output_for, input_by, output_by}
 use Rattle.sws_run.specs.Output.{ending_by, ending_at, text_after, text_of, text_for, frames_in}
 use Rattle.sws_run.specs.Frames.{IfTold, IsBehind, IsShortOf, TakesHeader, TakesHeaderPart, IsConverterOf, text_by, frames_by, texts_by}
-use Rattle.sws_run.specs.Frames.{EndsFrames, StopsReading, StopsWriting, ended_by}
-use Rattle.sws_run.specs.Ending.{CanEnd, IsOpeningFault, IfOutOfMemory}
+use Rattle.sws_run.specs.Frames.{EndsFrames, StopsForMemory, StopsReading, StopsWriting, ended_by}
+use Rattle.sws_run.specs.Ending.{CanEnd, IsOpeningFault}
 use Rattle.sws_run.specs.Run.{IfTaken, IsConversion, GivesAnswer, GivesReadFault, GivesWriteFault, GivesOutOfMemory, IsComplete}
 use Rattle.sws_run.proofs.Endings.{done_map, read_map, write_map, memory_map, unless_read_map, unless_write_map}
 use Rattle.sws_run.proofs.Told.{told_map, told_then, told_now, told_old, some_map}
@@ -304,9 +304,30 @@ complete_lift s0 s1 s2 k0 k1 k2 ended reads writes whole = record {
   sink_made = whole.sink_made ∙ writes.made;
 }
 
-pub no_memory_lift : (conversion : Conversion) (s0 s2 k0 k2 : Shown) (ended : Ended) → IfOutOfMemory ended (λ k. ⊥)
+pub memory_lift : (conversion : Conversion) (header : Header) (converter : Converter) (n : ℕ) (s0 s1 s2 k0 k1 k2 : Shown) (ended : Ended)
+    → IfTold s0.bytes s1.bytes (Meets conversion header converter n)
+    → Writes k0 k1 (header_in conversion.target_form (header_of conversion header)) → StopsForMemory converter n s1 k1 k2 ended
     → GivesOutOfMemory (Ok (request.Convert conversion)) s0 s2 k0 k2 ended
-no_memory_lift conversion s0 s2 k0 k2 ended never = record { output = memory_map ended (λ k. ⊥) _ (λ k no. absurd no) never }
+memory_lift conversion header converter n s0 s1 s2 k0 k1 k2 ended told wrote stops =
+    let asked : Result Request Ended = Ok (request.Convert conversion) in
+    let text = header_in conversion.target_form (header_of conversion header) in
+    let inner = λ (k : ℕ) (y : List ℕ). let t : Type 0 = (k ≤ length (frames_by converter n y).frames)
+    × Writes k1 k2 (concat (take k (texts_by converter n y))) in t in
+    let outer = λ (k : ℕ) (x : List ℕ). let t : Type 0 = (k ≤ length (input_by asked x).frames)
+    × Writes k0 k2 (text_after (output_by asked x) k) in t in
+    record {
+      output = memory_map ended (λ k. IfSome s1.bytes (inner k))
+          (λ k. ((k ≡ 0) × Writes k0 k2 []) ⊎ (IsConversion asked × IfSome s0.bytes (outer k)))
+          (λ k p. inr (
+            tt,
+            told_now s0.bytes s1.bytes (Meets conversion header converter n) (inner k) (outer k)
+                (λ x y m q. (
+                  subst (λ c. k ≤ length c.frames) (sym m.input) q.0,
+                  subst (λ o. Writes k0 k2 (text_after o k)) (sym m.output)
+                      (Writes-trans k0 k1 k2 text (concat (take k (texts_by converter n y))) wrote q.1),
+                )) told p,
+          )) stops;
+    }
 
 -- ---- a run that does not come to its frames
 

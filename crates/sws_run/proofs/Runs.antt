@@ -1,5 +1,5 @@
 -- The run over the frames of an input, at each of its exits.
-use Rattle.std.proofs.Common.{◌≡◌, ℕ, ◌+◌, ◌<◌, List, [], ◌++◌, length, sym, ap, ◌∙◌, arith, subst, map}
+use Rattle.std.proofs.Common.{◌≡◌, ℕ, ◌+◌, ◌<◌, ◌≤◌, List, [], ◌++◌, length, refl, sym, ap, ◌∙◌, arith, subst, map}
 use Rattle.std.proofs.Common.{take, IfSome}
 use Rattle.std.proofs.lemmas.List.{drop-map, length-map}
 use Rattle.std.proofs.Math.Seq.{take-length}
@@ -8,13 +8,16 @@ use Rattle.std.specs.declared.option.Option.{Option}
 use Rattle.pix_io.specs.Shown.{Shown}
 use Rattle.pix_io.specs.Streams.{Writes, WritesPart}
 use Rattle.pix_io.proofs.Calls.{Writes-trans, Writes-nil}
+use Rattle.frame_slices.specs.declared.frame_slice.Place.{Place}
+use Rattle.frame_slices.specs.declared.sliced_frame.SlicedFrame.{SlicedFrame}
 use Rattle.pix_meaning.specs.Target.{target_frame}
 use Rattle.y4m_io.specs.declared.fault.StreamFault.{StreamFault}
 use Rattle.sws_run.specs.declared.run.Converter.{Converter}
 use Rattle.sws_run.specs.Cut.{Frame, Frames, End, Clean, Broken, Whole, Faulty, piece_cut, last_end, most_frames}
 use Rattle.sws_run.specs.Cut.{whole_within}
 use Rattle.sws_run.specs.Output.{ending_at, front_in}
-use Rattle.sws_run.specs.Frames.{IfTold, IsBehind, TakesFrame, TakesPiece, text_by, frames_by, texts_by}
+use Rattle.sws_run.specs.Frames.{IfTold, IsBehind, IsFrameFor, TakesFrame, TakesPiece, text_by, frames_by, texts_by}
+use Rattle.sws_run.specs.Frames.{size_by, source_size}
 use Rattle.sws_run.proofs.Told.{some_map, some_map2, some_always, told_then, told_now, told_same, told_with, told_old}
 use Rattle.sws_run.proofs.Parts.{StandsAt, stands_at, concat-next, ends_in}
 use Rattle.sws_run.proofs.Places.{IsAt, at_start, at_frame, at_next, at_nothing, at_faulty, at_last, at_part, at_million, behind_then}
@@ -143,7 +146,29 @@ stops_at_last converter size a b c sink sink' at kept wrote =
     (told_then a b c (IsBehindFrames converter size most_frames) (λ bytes rest. rest ≡ bytes) (IsWithin converter size most_frames)
     (λ x y z p q. within_last converter size x y z p q) at kept) wrote
 
+-- ---- want of memory
+
+pub stops_for_memory : (converter : Converter) (size k : ℕ) (a b : Option (List ℕ)) (sink sink' : Shown)
+    → IfTold a b (IsBehindFrames converter size k) → IfSome a (WritesTexts converter size sink sink' k)
+    → IfSome a (λ bytes. (k ≤ length (frames_by converter size bytes).frames) × Writes sink sink'
+    (concat (take k (texts_by converter size bytes))))
+stops_for_memory converter size k a b sink sink' at wrote =
+    some_map2 a (λ bytes. k ≤ length (frames_by converter size bytes).frames) (WritesTexts converter size sink sink' k)
+    (λ bytes. (k ≤ length (frames_by converter size bytes).frames) × Writes sink sink' (concat (take k (texts_by converter size bytes))))
+    (λ x p q. (p, q))
+    (told_old a b (IsBehindFrames converter size k) (λ bytes. k ≤ length (frames_by converter size bytes).frames) (λ x y p. p.within) at)
+    wrote
+
 -- ---- a frame more
+
+-- the slices of a frame that the converter converts
+pub held_by : (converter : Converter) (frame : SlicedFrame) → IsFrameFor converter frame.whole → source_size frame ≡ size_by converter
+held_by converter frame is = rw (is.source, is.width, is.height) refl
+
+pub converted_by : (converter : Converter) (whole : Place) (frame target : List ℕ) → IsFrameFor converter whole
+    → target ≡ target_frame converter.plan.pair whole.width whole.rows frame
+    → target ≡ target_frame converter.plan.pair converter.width converter.height frame
+converted_by converter whole frame target is same = rw (is.width, is.height) same
 
 pub text_is : (converter : Converter) (frame target : List ℕ) → target
     ≡ target_frame converter.plan.pair converter.width converter.height frame
@@ -151,20 +176,12 @@ pub text_is : (converter : Converter) (frame target : List ℕ) → target
 unfolding text_by
 text_is converter frame target is = ap (λ t. front_in converter.target_form ++ t) is
 
--- the frame that was read, in a buffer of the frames' size
-piece_is : (converter : Converter) (size n : ℕ) (frame bytes : List ℕ) → length frame ≡ size
-    → piece_cut converter.source_form (length frame) bytes ≡ Whole (record { bytes = frame; size = n })
-    → piece_cut converter.source_form size bytes ≡ Whole (record { bytes = frame; size = n })
-piece_is converter size n frame bytes long is =
-    subst (λ m. piece_cut converter.source_form m bytes ≡ Whole (record { bytes = frame; size = n })) long is
-
-pub next_place : (converter : Converter) (size k : ℕ) (frame : List ℕ) (a b c : Option (List ℕ)) → k < most_frames → length frame ≡ size
+pub next_place : (converter : Converter) (size k : ℕ) (frame : List ℕ) (a b c : Option (List ℕ)) → k < most_frames
     → IfTold a b (IsBehindFrames converter size k)
-    → IfTold b c (TakesFrame converter.source_form frame) → IfTold a c (IsBehindFrames converter size (k + 1))
-next_place converter size k frame a b c more long at taken =
-    told_then a b c (IsBehindFrames converter size k) (TakesFrame converter.source_form frame) (IsBehindFrames converter size (k + 1))
-    (λ x y z p q. at_next converter.source_form size most_frames k x y z (record { bytes = frame; size = q.0 }) more p
-    (piece_is converter size q.0 frame y long q.1) q.2) at taken
+    → IfTold b c (TakesFrame converter.source_form size frame) → IfTold a c (IsBehindFrames converter size (k + 1))
+next_place converter size k frame a b c more at taken =
+    told_then a b c (IsBehindFrames converter size k) (TakesFrame converter.source_form size frame) (IsBehindFrames converter size (k + 1))
+    (λ x y z p q. at_next converter.source_form size most_frames k x y z (record { bytes = frame; size = q.0 }) more p q.1 q.2) at taken
 
 -- the text of frame k stands in the output
 abbrev pub HasText : Converter → ℕ → ℕ → List ℕ → List ℕ → Type 0
@@ -177,19 +194,18 @@ text_stands converter size k frame frames all at =
     stands_at k (text frame) (map text frames) (map text all) (omega (arith, length-map all text, at.within))
     (drop-map text k all ∙ ap (map text) at.here)
 
-pub has_text : (converter : Converter) (size k : ℕ) (frame : List ℕ) (a b c : Option (List ℕ)) → k < most_frames → length frame ≡ size
+pub has_text : (converter : Converter) (size k : ℕ) (frame : List ℕ) (a b c : Option (List ℕ)) → k < most_frames
     → IfTold a b (IsBehindFrames converter size k)
-    → IfTold b c (TakesFrame converter.source_form frame) → IfSome a (HasText converter size k (text_by converter frame))
-has_text converter size k frame a b c more long at taken =
+    → IfTold b c (TakesFrame converter.source_form size frame) → IfSome a (HasText converter size k (text_by converter frame))
+has_text converter size k frame a b c more at taken =
     told_old a c (λ x z. HasText converter size k (text_by converter frame) x) (HasText converter size k (text_by converter frame))
     (λ x z p. p)
-    (told_then a b c (IsBehindFrames converter size k) (TakesFrame converter.source_form frame)
+    (told_then a b c (IsBehindFrames converter size k) (TakesFrame converter.source_form size frame)
     (λ x z. HasText converter size k (text_by converter frame) x)
     (λ x y z p q. (
       _,
       text_stands converter size k (record { bytes = frame; size = q.0 }) _ (frames_by converter size x).frames
-          (at_frame converter.source_form size most_frames k x y (record { bytes = frame; size = q.0 }) more p
-          (piece_is converter size q.0 frame y long q.1)),
+          (at_frame converter.source_form size most_frames k x y (record { bytes = frame; size = q.0 }) more p q.1),
     )) at taken)
 
 pub next_texts : (converter : Converter) (size k : ℕ) (text : List ℕ) (a : Option (List ℕ)) (sink sink' sink'' : Shown)

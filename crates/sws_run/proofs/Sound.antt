@@ -1,5 +1,5 @@
 -- What words ask for is sound.
-use Rattle.std.proofs.Common.{◌≡◌, true, false, Bool, ℕ, ◌<◌, not, map, Result, Ok, Err, IfOk, IfSome, if◌then◌else◌, refl, sym, ap}
+use Rattle.std.proofs.Common.{◌≡◌, true, false, Bool, ℕ, ◌<◌, not, map, Result, Ok, Err, IfOk, IfSome, if◌then◌else◌, refl, sym, ap, arith}
 use Rattle.std.proofs.Common.{◌∙◌}
 use Rattle.std.specs.Prelude.{codes}
 use Rattle.std.specs.List.{list_any}
@@ -13,10 +13,13 @@ use Rattle.desc_table.proofs.Rows.{agree_at_row}
 use Rattle.sws_words.specs.declared.task.Form.{Form}
 use Rattle.sws_words.specs.declared.task.Form.TheVariants.{Raw, Y4m}
 use Rattle.sws_words.specs.declared.task.Named.{Named}
+use Rattle.pix_meaning.specs.declared.pair.Pair.{Pair}
 use Rattle.sws_words.specs.declared.task.Convert.{Convert}
+use Rattle.sws_words.specs.declared.task.Generate.{Generate}
+use Rattle.sws_words.specs.declared.task.Sides.{Sides}
 use Rattle.sws_words.specs.Rules.{stream_formats, finds}
 use Rattle.sws_words.specs.Rules as words
-use Rattle.sws_words.specs.Task.{IsSource, IsSide, FitsForm, IsFrame, HasName}
+use Rattle.sws_words.specs.Task.{AreSides, IsMaking, IsSource, IsSide, FitsForm, IsFrame, HasName}
 use Rattle.sws_words.specs.Task as task
 use Rattle.y4m_io.specs.StreamFormats.{colour_spaces, text_of_name}
 use Rattle.y4m_io.specs.StreamFormats as stream
@@ -25,7 +28,8 @@ use Rattle.sws_run.specs.declared.ended.Ended.TheVariants.{PaletteTarget}
 use Rattle.sws_run.specs.declared.ended.SideName.TheVariants.{In}
 use Rattle.sws_run.specs.declared.request.Input.{Input}
 use Rattle.sws_run.specs.Request.{format_of, raw_input, input_of, target_of, conversion_with, conversion_of, IsSoundInput, HasForm}
-use Rattle.sws_run.specs.Request.{IsSoundConversion}
+use Rattle.sws_run.specs.Request.{IsSoundConversion, IsSoundMaking, IsTablePair, making_of, making_with, pair_between, pair_with}
+use Rattle.sws_run.proofs.Opened.{table_side}
 
 -- ---- the formats of a stream are the same for the words and for the stream
 
@@ -94,6 +98,8 @@ sound_with asked (Ok input) (Ok target) input_sound target_sound sound = record 
   source_matrix = sound.named;
   target_matrix = sound.to.named;
   dither = sound.dither_most;
+  workers = omega (arith, sound.workers_least);
+  slice = omega (arith, sound.slice_least);
 }
 
 pub sound_conversion : (asked : Convert) → task.IsConversion asked → IfOk (conversion_of asked) IsSoundConversion
@@ -101,3 +107,34 @@ sound_conversion asked sound =
     sound_with asked (input_of asked.source asked.width asked.height) (target_of asked.target.format)
     (sound_input asked.source_form asked.source asked.width asked.height sound.from sound.sides)
     (sound_target asked.target_form asked.target sound.to sound.form) sound
+
+-- ---- two sides that are named
+
+pair_found : (sides : Sides) (source target : ℕ) (palette : Bool) → (desc_of target).palette ≡ palette → AreSides sides
+    → source < format_count → target < format_count
+    → IfOk (pair_with sides (Ok source) (if palette then Err PaletteTarget else Ok target)) IsTablePair
+pair_found sides source target true is sound from to = tt
+pair_found sides source target false is sound from to = record {
+  from = table_side source sides.source.matrix sides.source.range from sound.source.named;
+  to = table_side target sides.target.matrix sides.target.range to sound.target.named;
+  plain = is;
+  dither = sound.dither_most;
+}
+
+pair_at : (sides : Sides) (source target : Result ℕ FormatFault) → AreSides sides → IfOk source (λ id. id < format_count)
+    → IfOk target (λ id. id < format_count) → IfOk (pair_with sides (format_of In source) (target_of target)) IsTablePair
+pair_at sides (Err fault) target sound from to = tt
+pair_at sides (Ok source) (Err fault) sound from to = tt
+pair_at sides (Ok source) (Ok target) sound from to = pair_found sides source target (desc_of target).palette refl sound from to
+
+pub sound_pair : (sides : Sides) → AreSides sides → IfOk (pair_between sides) IsTablePair
+sound_pair sides sound = pair_at sides sides.source.format sides.target.format sound sound.source.known sound.target.known
+
+making_at : (asked : Generate) (pair : Result Pair Ended) → IsMaking asked → IfOk pair IsTablePair
+    → IfOk (making_with asked pair) IsSoundMaking
+making_at asked (Err refusal) sound is = tt
+making_at asked (Ok pair) sound is =
+    record { pair = is; workers = omega (arith, sound.workers_least); slice = omega (arith, sound.slice_least) }
+
+pub sound_making : (asked : Generate) → IsMaking asked → IfOk (making_of asked) IsSoundMaking
+sound_making asked sound = making_at asked (pair_between asked.sides) sound (sound_pair asked.sides sound.sides)

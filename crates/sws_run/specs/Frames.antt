@@ -2,11 +2,15 @@
 use Rattle.std.specs.Prelude.{◌≡◌, ◌<◌, ◌≤◌, ℕ, ◌++◌, List, [], length, take, drop, map, Option, None, Some, Result, Ok, Err, IfSome}
 use Rattle.std.specs.Prelude.{if◌then◌else◌, Bool}
 use Rattle.std.specs.List.{concat}
+use Rattle.pix_desc.specs.Frame.{frame_length}
 use Rattle.pix_io.specs.Shown.{Shown}
 use Rattle.pix_io.specs.Faults.{Rose}
 use Rattle.pix_io.specs.Streams.{Writes, HasEnded}
 use Rattle.pix_meaning.specs.Target.{target_frame}
 use Rattle.desc_table.specs.Format.{format_count}
+use Rattle.frame_slices.specs.declared.frame_slice.Place.{Place}
+use Rattle.frame_slices.specs.declared.sliced_frame.SlicedFrame.{SlicedFrame}
+use Rattle.frame_slices.specs.FrameSlices.{source_in, target_in}
 use Rattle.sws_words.specs.declared.task.Form.{Form}
 use Rattle.sws_words.specs.Task.{IsFrame}
 use Rattle.y4m_io.specs.declared.fault.StreamFault.{StreamFault}
@@ -25,7 +29,7 @@ use Rattle.sws_run.specs.Request.{form_of}
 use Rattle.sws_run.specs.Sides.{pair_of}
 use Rattle.sws_run.specs.Cut.{Frames, Piece, Nothing, Whole, Faulty, End, Clean, TooMany, header_line_cut, piece_cut, frames_cut}
 use Rattle.sws_run.specs.Cut.{most_frames, whole_within}
-use Rattle.sws_run.specs.Ending.{IsDecided, CanEnd, IfDone, IfReadFault, IfWriteFault}
+use Rattle.sws_run.specs.Ending.{IsDecided, CanEnd, IfDone, IfOutOfMemory, IfReadFault, IfWriteFault}
 use Rattle.sws_run.specs.Output.{ending_at, front_in}
 
 -- a fact of the bytes left before and after, where they are told
@@ -34,6 +38,16 @@ IfTold None left P = Unit {0}
 IfTold (Some bytes) None P = ⊥
 IfTold (Some bytes) (Some rest) P = P bytes rest
 
+-- the source frame that slices hold, the target frame, and how many bytes a source frame has
+abbrev pub source_held : SlicedFrame → List ℕ
+source_held frame = source_in frame.whole frame.slices.items
+
+abbrev pub target_held : SlicedFrame → List ℕ
+target_held frame = target_in frame.whole frame.slices.items
+
+abbrev pub source_size : SlicedFrame → ℕ
+source_size frame = frame_length frame.whole.source frame.whole.width frame.whole.rows
+
 -- n bytes were taken from the front
 pub record IsBehind (n : ℕ) (bytes rest : List ℕ) : Type 0 where
   pub within : n ≤ length bytes
@@ -41,10 +55,10 @@ pub record IsBehind (n : ℕ) (bytes rest : List ℕ) : Type 0 where
 
 -- ---- one frame
 
--- the bytes begin with this frame, and its text was taken
-abbrev pub TakesFrame : Form → List ℕ → List ℕ → List ℕ → Type 0
-TakesFrame form frame bytes rest =
-    (size : ℕ) × (piece_cut form (length frame) bytes ≡ Whole (record { bytes = frame; size = size })) × IsBehind size bytes rest
+-- the bytes begin with this frame, of so many bytes, and its text was taken
+abbrev pub TakesFrame : Form → ℕ → List ℕ → List ℕ → List ℕ → Type 0
+TakesFrame form size frame bytes rest =
+    (n : ℕ) × (piece_cut form size bytes ≡ Whole (record { bytes = frame; size = n })) × IsBehind n bytes rest
 
 -- n bytes are fewer than the frame's text has that stands there
 abbrev pub IsShort : ℕ → Piece → Type 0
@@ -57,9 +71,9 @@ abbrev pub TakesPiece : Form → ℕ → List ℕ → List ℕ → Type 0
 TakesPiece form size bytes rest = (n : ℕ) × IsBehind n bytes rest × IsShort n (piece_cut form size bytes)
 
 -- what stood where a frame may begin: a frame, which was taken, or the end of the input
-abbrev pub ReadsNext : Form → Shown → Shown → List ℕ → Next → Type 0
-ReadsNext form old new frame next.Frame = IfTold old.bytes new.bytes (TakesFrame form frame)
-ReadsNext form old new frame next.End = IfSome old.bytes (λ bytes. bytes ≡ []) × HasEnded new
+abbrev pub ReadsNext : Form → Shown → Shown → ℕ → List ℕ → Next → Type 0
+ReadsNext form old new size frame next.Frame = IfTold old.bytes new.bytes (TakesFrame form size frame)
+ReadsNext form old new size frame next.End = IfSome old.bytes (λ bytes. bytes ≡ []) × HasEnded new
 
 -- whether the bytes are at their end
 abbrev pub end_if : Bool → End
@@ -99,6 +113,18 @@ pub record IsConverterOf (conversion : Conversion) (header : Header) (converter 
   pub height : converter.height ≡ header.height
   pub source_form : converter.source_form ≡ form_of conversion.input
   pub target_form : converter.target_form ≡ conversion.target_form
+  pub workers : converter.workers ≡ conversion.workers
+
+-- a frame of this size and these formats is one that it converts
+pub record IsFrameFor (converter : Converter) (whole : Place) : Type 0 where
+  pub source : converter.plan.pair.from.desc ≡ whole.source
+  pub target : converter.plan.pair.to.desc ≡ whole.target
+  pub width : converter.width ≡ whole.width
+  pub height : converter.height ≡ whole.rows
+
+-- how many bytes a source frame has
+abbrev pub size_by : Converter → ℕ
+size_by converter = frame_length converter.plan.pair.from.desc converter.width converter.height
 
 -- ---- all frames
 
@@ -126,6 +152,11 @@ pub record StopsReading (converter : Converter) (size : ℕ) (source source' sin
   pub place : IfReadFault ended (λ k. IfTold source.bytes source'.bytes (λ bytes rest. (n : ℕ) × IsBehind n bytes rest
       × (k ≡ whole_within (λ frame. frame.size) n (frames_by converter size bytes).frames) × Writes sink sink'
       (concat (take k (texts_by converter size bytes)))))
+
+-- at want of memory the texts of its frames were written, and there are at least so many
+abbrev pub StopsForMemory : Converter → ℕ → Shown → Shown → Shown → Ended → Type 0
+StopsForMemory converter size source sink sink' ended = IfOutOfMemory ended (λ k. IfSome source.bytes
+    (λ bytes. (k ≤ length (frames_by converter size bytes).frames) × Writes sink sink' (concat (take k (texts_by converter size bytes)))))
 
 -- at a write fault a front of the texts was written, shorter than they are, and its frames are those that lie wholly in it
 pub record StopsWriting (converter : Converter) (size : ℕ) (source source' sink sink' : Shown) (ended : Ended) : Type 0 where

@@ -4,6 +4,7 @@ pub mod FormatList
 pub mod Frames
 pub mod NotesLine
 pub mod Output
+pub mod Report
 pub mod Request
 pub mod Run
 pub mod Sides

@@ -13,7 +13,7 @@ use Rattle.sws_run.specs.declared.request.Conversion.{Conversion}
 use Rattle.sws_run.specs.declared.request.Request.{Request}
 use Rattle.sws_run.specs.declared.request.Request.TheVariants as request
 use Rattle.sws_run.specs.Cut.{Cut, Frame, End, Clean, TooMany, Broken, cut, frames_within, header_size, whole_within}
-use Rattle.sws_run.specs.FormatList.{list_text}
+use Rattle.sws_run.specs.Report.{report_frames, report_text}
 use Rattle.sws_run.specs.Sides.{pair_of}
 
 -- an output: the text before its frames, and the texts of its frames
@@ -57,13 +57,13 @@ output_for conversion input = output_behind conversion input.header input.frames
 -- the input that a run reads: one that converts nothing reads nothing
 unfoldable pub input_by : Result Request Ended → List ℕ → Cut
 input_by (Ok (request.Convert conversion)) bytes = cut conversion.input bytes
-input_by (Ok request.List) bytes = record { header = None; frames = []; end = Clean }
+input_by (Ok (request.Report report)) bytes = record { header = None; frames = []; end = Clean }
 input_by (Err refusal) bytes = record { header = None; frames = []; end = Clean }
 
--- its output: what it converts to, the list of formats, or nothing where the words are refused
+-- its output: what it converts to, the text of a report, or nothing where the words are refused
 unfoldable pub output_by : Result Request Ended → List ℕ → Output
 output_by (Ok (request.Convert conversion)) bytes = output_for conversion (cut conversion.input bytes)
-output_by (Ok request.List) bytes = record { header = list_text; frames = [] }
+output_by (Ok (request.Report report)) bytes = record { header = report_text report; frames = [] }
 output_by (Err refusal) bytes = record { header = []; frames = [] }
 
 -- the ending that an end of the input behind so many frames gives
@@ -75,7 +75,7 @@ ending_at (Broken fault) frames = Stream fault frames
 -- how a run ends where nothing outside fails
 unfoldable pub ending_by : Result Request Ended → List ℕ → Ended
 ending_by (Ok (request.Convert conversion)) bytes = ending_at (cut conversion.input bytes).end (length (cut conversion.input bytes).frames)
-ending_by (Ok request.List) bytes = Done 0
+ending_by (Ok (request.Report report)) bytes = Done (report_frames report)
 ending_by (Err refusal) bytes = refusal
 
 -- ---- parts of an output

@@ -13,24 +13,25 @@ use Rattle.sws_run.specs.Request.{form_of}
 use Rattle.sws_run.specs.Ending.{IsDecided, CanEnd, IfDone, IfReadFault, IfWriteFault, IfOutOfMemory, UnlessReadFault, UnlessWriteFault}
 use Rattle.sws_run.specs.Cut.{frames_within}
 use Rattle.sws_run.specs.NotesLine.{line_of}
+use Rattle.sws_run.specs.Report.{report_frames}
 use Rattle.sws_run.specs.Output.{input_by, output_by, ending_by, text_of, text_after, text_for, frames_in}
 
 -- the run converts a stream
 abbrev pub IsConversion : Result Request Ended → Type 0
 IsConversion (Ok (request.Convert conversion)) = Unit {0}
-IsConversion (Ok request.List) = ⊥
+IsConversion (Ok (request.Report report)) = ⊥
 IsConversion (Err refusal) = ⊥
 
 -- the bytes by which a run goes: those of the source, and none where it converts nothing
 abbrev pub bytes_by : Result Request Ended → Shown → Option (List ℕ)
 bytes_by (Ok (request.Convert conversion)) source = source.bytes
-bytes_by (Ok request.List) source = Some []
+bytes_by (Ok (request.Report report)) source = Some []
 bytes_by (Err refusal) source = Some []
 
 -- what the words alone say of the ending
 abbrev pub AgreesWith : Result Request Ended → Ended → Type 0
 AgreesWith (Ok (request.Convert conversion)) ended = CanEnd (form_of conversion.input) ended
-AgreesWith (Ok request.List) ended = ended ≡ Done 0
+AgreesWith (Ok (request.Report report)) ended = ended ≡ Done (report_frames report)
 AgreesWith (Err refusal) ended = ended ≡ refusal
 
 -- a fact of all the bytes before, and of how many of them were taken from their front

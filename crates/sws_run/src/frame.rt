@@ -8,7 +8,9 @@ ghost use Rattle.sws_run.specs.Cut.{piece_cut, Faulty, last_end};
 ghost use Rattle.sws_run.specs.Ending.{IsFrameFault};
 ghost use Rattle.sws_run.specs.Output.{front_in};
 ghost use Rattle.sws_run.specs.Frames.{IfTold, TakesPiece, ReadsNext, end_if};
+ghost use Rattle.sws_run.specs.Frames.{source_held, source_size, target_held};
 
+use frame_slices::SlicedFrame;
 use pix_io::{Failed, Got, Sink, Source, read_whole, write_all};
 use sws_words::Form;
 use y4m_io::{FrameLine, LineEnd, StreamFault, read_frame_line};
@@ -23,20 +25,21 @@ pub enum Next {
 }
 
 // Reads a raw frame, or finds the input at its end.
-fn read_raw_frame<In: Source>(input: &mut In, frame: &mut [u8]) -> Result<Next, LineEnd>
-    requires { 0 < length frame.old }
+fn read_raw_frame<In: Source>(input: &mut In, frame: &mut SlicedFrame) -> Result<Next, LineEnd>
+    requires { 0 < source_size frame.old }
     ensures next { IfOk result (ReadsNext Form.Raw (In.shown input.old)
-        (In.shown input.new) frame.new) }
+        (In.shown input.new) (source_size frame.old) (source_held frame.new)) }
     ensures fault { IfErr result (λ end. IfSome (line_fault end)
         (λ fault. IfSome (In.shown input.old).bytes (λ bytes.
-        piece_cut Form.Raw (length frame.new) bytes ≡ Faulty fault))) }
+        piece_cut Form.Raw (source_size frame.old) bytes ≡ Faulty fault))) }
     ensures known { IfErr result (λ end. IfSome (line_fault end) (IsFrameFault Form.Raw)) }
     ensures read_fault { OnErr (line_reads result)
         (IfTold (In.shown input.old).bytes (In.shown input.new).bytes
-        (TakesPiece Form.Raw (length frame.new))) }
+        (TakesPiece Form.Raw (source_size frame.old))) }
     ensures cause { HasCause (In.shown input.old) (In.shown input.new) (line_reads result) }
+    ensures whole { frame.new.whole ≡ frame.old.whole }
 {
-    match read_whole(input, frame) {
+    match frame.read(input) {
         Ok(Got::Whole) => Ok(Next::Frame),
         Ok(Got::End) => Ok(Next::End),
         Ok(Got::Short(_)) => Err(LineEnd::Stream(StreamFault::Truncated)),
@@ -45,25 +48,26 @@ fn read_raw_frame<In: Source>(input: &mut In, frame: &mut [u8]) -> Result<Next, 
 }
 
 // Reads a frame with its line, or finds the input at its end.
-fn read_stream_frame<In: Source>(input: &mut In, frame: &mut [u8]) -> Result<Next, LineEnd>
-    requires { 0 < length frame.old }
+fn read_stream_frame<In: Source>(input: &mut In, frame: &mut SlicedFrame) -> Result<Next, LineEnd>
+    requires { 0 < source_size frame.old }
     ensures next { IfOk result (ReadsNext Form.Y4m (In.shown input.old)
-        (In.shown input.new) frame.new) }
+        (In.shown input.new) (source_size frame.old) (source_held frame.new)) }
     ensures fault { IfErr result (λ end. IfSome (line_fault end)
         (λ fault. IfSome (In.shown input.old).bytes (λ bytes.
-        piece_cut Form.Y4m (length frame.new) bytes ≡ Faulty fault))) }
+        piece_cut Form.Y4m (source_size frame.old) bytes ≡ Faulty fault))) }
     ensures known { IfErr result (λ end. IfSome (line_fault end) (IsFrameFault Form.Y4m)) }
     ensures read_fault { OnErr (line_reads result)
         (IfTold (In.shown input.old).bytes (In.shown input.new).bytes
-        (TakesPiece Form.Y4m (length frame.new))) }
+        (TakesPiece Form.Y4m (source_size frame.old))) }
     ensures cause { HasCause (In.shown input.old) (In.shown input.new) (line_reads result) }
+    ensures whole { frame.new.whole ≡ frame.old.whole }
 {
     match read_frame_line(input) {
         Ok(FrameLine::Frame) => {}
         Ok(FrameLine::End) => return Ok(Next::End),
         Err(end) => return Err(end),
     }
-    match read_whole(input, frame) {
+    match frame.read(input) {
         Ok(Got::Whole) => Ok(Next::Frame),
         Ok(Got::End) => Err(LineEnd::Stream(StreamFault::Truncated)),
         Ok(Got::Short(_)) => Err(LineEnd::Stream(StreamFault::Truncated)),
@@ -71,20 +75,26 @@ fn read_stream_frame<In: Source>(input: &mut In, frame: &mut [u8]) -> Result<Nex
     }
 }
 
-/// Reads the next frame of an input of this form, which then fills `frame`, or finds the input at
-/// its end.
-pub fn read_frame<In: Source>(form: Form, input: &mut In, frame: &mut [u8]) -> Result<Next, LineEnd>
-    requires { 0 < length frame.old }
+/// Reads the next frame of an input of this form, whose bytes the slices then hold, or finds the
+/// input at its end.
+pub fn read_frame<In: Source>(
+    form: Form,
+    input: &mut In,
+    frame: &mut SlicedFrame,
+) -> Result<Next, LineEnd>
+    requires { 0 < source_size frame.old }
     ensures next { IfOk result
-        (ReadsNext form (In.shown input.old) (In.shown input.new) frame.new) }
+        (ReadsNext form (In.shown input.old) (In.shown input.new)
+        (source_size frame.old) (source_held frame.new)) }
     ensures fault { IfErr result (λ end. IfSome (line_fault end)
         (λ fault. IfSome (In.shown input.old).bytes (λ bytes.
-        piece_cut form (length frame.new) bytes ≡ Faulty fault))) }
+        piece_cut form (source_size frame.old) bytes ≡ Faulty fault))) }
     ensures known { IfErr result (λ end. IfSome (line_fault end) (IsFrameFault form)) }
     ensures read_fault { OnErr (line_reads result)
         (IfTold (In.shown input.old).bytes (In.shown input.new).bytes
-        (TakesPiece form (length frame.new))) }
+        (TakesPiece form (source_size frame.old))) }
     ensures cause { HasCause (In.shown input.old) (In.shown input.new) (line_reads result) }
+    ensures whole { frame.new.whole ≡ frame.old.whole }
 {
     match form {
         Form::Raw => read_raw_frame(input, frame),
@@ -120,16 +130,20 @@ fn front(form: Form) -> &'static [u8]
     }
 }
 
-/// Writes a frame, in a stream behind its line.
-pub fn write_frame<Out: Sink>(form: Form, output: &mut Out, frame: &[u8]) -> Result<(), Failed>
+/// Writes the target frame that the slices hold, in a stream behind its line.
+pub fn write_frame<Out: Sink>(
+    form: Form,
+    output: &mut Out,
+    frame: &SlicedFrame,
+) -> Result<(), Failed>
     ensures written { OnOk result (Writes (Out.shown output.old) (Out.shown output.new)
-        (front_in form ++ frame.now)) }
+        (front_in form ++ target_held frame.now)) }
     ensures part { OnErr result (WritesPart (Out.shown output.old) (Out.shown output.new)
-        (front_in form ++ frame.now)) }
+        (front_in form ++ target_held frame.now)) }
     ensures cause { HasCause (Out.shown output.old) (Out.shown output.new) result }
 {
     match write_all(output, front(form)) {
-        Ok(()) => write_all(output, frame),
+        Ok(()) => frame.write(output),
         Err(failed) => Err(failed),
     }
 }

@@ -5,15 +5,19 @@ mod convert;
 mod ended;
 mod format_list;
 mod frame;
+mod making;
 mod notes_line;
 mod opening;
+mod planning;
+mod report;
 mod request;
 mod run;
 mod sides;
 mod top;
 
 pub use ended::{Ended, SideName};
-pub use top::{Gate, OpenGate, run_sws};
+pub use frame_slices::{Gate, OpenGate};
+pub use top::run_sws;
 
 #[cfg(test)]
 mod tests;

@@ -3,12 +3,14 @@ ghost use Rattle.std.specs.Prelude.{◌≡◌, Ok, IfOk, IfErr};
 ghost use Rattle.sws_words.specs.Task.{IsSound as IsSoundTask};
 ghost use Rattle.sws_run.specs.Ending.{IsRefusal};
 ghost use Rattle.sws_run.specs.Request.{IsSound, input_of, format_of, target_of, conversion_of};
-ghost use Rattle.sws_run.specs.Request.{request_of};
+ghost use Rattle.sws_run.specs.Request.{pair_between, making_of, request_of};
 
+use crate::sides::side_with;
 use crate::{Ended, SideName};
 use colour_matrix::{Matrix, Range};
 use desc_table::{FormatFault, FormatId, desc};
-use sws_words::{Convert, Form, Named, Task};
+use pix_meaning::Pair;
+use sws_words::{Convert, Form, Generate, Named, Sides, Task};
 
 /// Where the frames of a source begin.
 #[derive(Clone, Copy, Debug, PartialEq, Eq)]
@@ -40,6 +42,33 @@ pub struct Conversion {
     pub target_form: Form,
     /// The dither number, 0 to 4.
     pub dither: u8,
+    /// How many workers, at least 1. They change no byte.
+    pub workers: u32,
+    /// Rows a slice, at least 1. They change no byte.
+    pub slice: u32,
+}
+
+/// Frames that are made from a seed, and what they are converted to.
+#[derive(Clone, Copy, Debug, PartialEq, Eq)]
+pub struct Making {
+    /// Its formats are of the table, the target's without a palette.
+    pub pair: Pair,
+    /// How many workers, at least 1. They change no byte.
+    pub workers: u32,
+    /// Rows a slice, at least 1. They change no byte.
+    pub slice: u32,
+    pub seed: u64,
+}
+
+/// What is told without any input.
+#[derive(Clone, Copy, Debug, PartialEq, Eq)]
+pub enum Report {
+    /// The formats.
+    List,
+    /// The normal list of a pair, whose formats are of the table, the target's without a palette.
+    Ops(Pair),
+    /// The sum of what frames that are made are converted to.
+    Generate(Making),
 }
 
 /// What the words ask for.
@@ -47,8 +76,8 @@ pub struct Conversion {
 pub enum Request {
     /// To convert a stream of frames.
     Convert(Conversion),
-    /// To list the formats.
-    List,
+    /// To tell something without any input.
+    Report(Report),
 }
 
 // The format of a side.
@@ -105,6 +134,35 @@ fn conversion_of(asked: &Convert) -> Result<Conversion, Ended>
         target_range: asked.target.range,
         target_form: asked.target_form,
         dither: asked.dither,
+        workers: asked.workers,
+        slice: asked.slice,
+    })
+}
+
+// The pair of two sides, the source found before the target.
+fn pair_between(sides: &Sides) -> Result<Pair, Ended>
+    ensures value { result ≡ pair_between sides.now }
+    ensures refusal { IfErr result IsRefusal }
+{
+    let source = format_of(SideName::In, sides.source.format)?;
+    let target = target_of(sides.target.format)?;
+    Ok(Pair {
+        from: side_with(source, sides.source.matrix, sides.source.range),
+        to: side_with(target, sides.target.matrix, sides.target.range),
+        dither: sides.dither,
+    })
+}
+
+// What is to be made, between two sides that are found.
+fn making_of(asked: &Generate) -> Result<Making, Ended>
+    ensures value { result ≡ making_of asked.now }
+    ensures refusal { IfErr result IsRefusal }
+{
+    Ok(Making {
+        pair: pair_between(&asked.sides)?,
+        workers: asked.workers,
+        slice: asked.slice,
+        seed: asked.seed,
     })
 }
 
@@ -117,6 +175,8 @@ pub fn request_of(task: &Task) -> Result<Request, Ended>
 {
     match task {
         Task::Convert(asked) => Ok(Request::Convert(conversion_of(asked)?)),
-        Task::List => Ok(Request::List),
+        Task::List => Ok(Request::Report(Report::List)),
+        Task::Ops(sides) => Ok(Request::Report(Report::Ops(pair_between(sides)?))),
+        Task::Generate(asked) => Ok(Request::Report(Report::Generate(making_of(asked)?))),
     }
 }

@@ -1,14 +1,16 @@
 // The run over the frames of an input: frame after frame.
-ghost use Rattle.std.specs.Prelude.{◌≡◌, ◌<◌, ◌≤◌, length};
-ghost use Rattle.pix_desc.specs.Frame.{frame_length};
-ghost use Rattle.sws_run.specs.Ending.{IfOutOfMemory};
+ghost use Rattle.std.specs.Prelude.{◌<◌};
 ghost use Rattle.sws_run.specs.Run.{IsComplete};
-ghost use Rattle.sws_run.specs.Frames.{EndsFrames, StopsReading, StopsWriting};
+ghost use Rattle.sws_run.specs.Frames.{EndsFrames, StopsReading, StopsWriting, StopsForMemory};
+ghost use Rattle.sws_run.specs.Frames.{IsFrameFor, size_by};
 
 use crate::Ended;
 use crate::frame::{Next, is_at_end, read_frame, write_frame};
+use frame_slices::{Gate, SlicedFrame};
 use pix_io::{Sink, Source};
 use row_plan::Plan;
+use std::alloc::Global;
+use std::thread::Threads;
 use sws_words::Form;
 use y4m_io::LineEnd;
 
@@ -25,41 +27,40 @@ pub struct Converter {
     pub height: u32,
     pub source_form: Form,
     pub target_form: Form,
+    /// How many workers, at least 1.
+    pub workers: u32,
 }
 
-/// Converts the frames of the input one after the other, in a buffer for a source frame and one for
-/// its target frame.
-pub fn convert_frames<In: Source, Out: Sink>(
+/// Converts the frames of the input one after the other, in the slices of one frame.
+pub fn convert_frames<R: Threads + Sync, In: Source, Out: Sink, G: Gate>(
+    rt: &R,
+    alloc: Global,
     converter: &Converter,
     input: &mut In,
     output: &mut Out,
-    frame: &mut [u8],
-    target: &mut [u8],
+    frame: SlicedFrame,
+    gate: &G,
 ) -> Ended
-    requires height { converter.now.height ≤ 16384 }
-    requires some { 0 < length frame.old }
-    requires frame { length frame.old ≡ frame_length converter.now.plan.pair.from.desc
-        converter.now.width
-        converter.now.height }
-    requires target { length target.old ≡ frame_length converter.now.plan.pair.to.desc
-        converter.now.width
-        converter.now.height }
-
-    ensures answer { EndsFrames converter.now (length frame.old) (In.shown input.old)
+    requires some { 0 < size_by converter.now }
+    requires frame { IsFrameFor converter.now frame.whole }
+    requires workers { 0 < converter.now.workers }
+    ensures answer { EndsFrames converter.now (size_by converter.now) (In.shown input.old)
         (In.shown input.new)
         (Out.shown output.old) (Out.shown output.new) result }
-    ensures read_fault { StopsReading converter.now (length frame.old) (In.shown input.old)
+    ensures read_fault { StopsReading converter.now (size_by converter.now) (In.shown input.old)
         (In.shown input.new)
         (Out.shown output.old) (Out.shown output.new) result }
-    ensures write_fault { StopsWriting converter.now (length frame.old) (In.shown input.old)
+    ensures write_fault { StopsWriting converter.now (size_by converter.now) (In.shown input.old)
         (In.shown input.new)
         (Out.shown output.old) (Out.shown output.new) result }
-    ensures memory { IfOutOfMemory result (λ _. ⊥) }
+    ensures memory { StopsForMemory converter.now (size_by converter.now) (In.shown input.old)
+        (Out.shown output.old) (Out.shown output.new) result }
     ensures complete { IsComplete (In.shown input.old) (In.shown input.new) (Out.shown output.old)
         (Out.shown output.new) result }
 {
+    let mut frame = frame;
     for done in 0..MAX_FRAMES {
-        match read_frame(converter.source_form, input, frame) {
+        match read_frame(converter.source_form, input, &mut frame) {
             Ok(Next::Frame) => {}
             Ok(Next::End) => return Ended::Done { frames: done },
             Err(LineEnd::Stream(fault)) => return Ended::Stream {
@@ -68,10 +69,11 @@ pub fn convert_frames<In: Source, Out: Sink>(
             },
             Err(LineEnd::ReadFault) => return Ended::ReadFault { frames: done },
         }
-        converter
-            .plan
-            .convert_rows(0, converter.width, converter.height, frame, target);
-        match write_frame(converter.target_form, output, target) {
+        frame = match frame.convert(rt, alloc, &converter.plan, converter.workers, gate) {
+            Ok(converted) => converted,
+            Err(_) => return Ended::OutOfMemory { frames: done },
+        };
+        match write_frame(converter.target_form, output, &frame) {
             Ok(()) => {}
             Err(_) => return Ended::WriteFault { frames: done },
         }

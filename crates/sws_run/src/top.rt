@@ -1,61 +1,67 @@
 // The run of the program, from its words to its ending.
 ghost use Rattle.std.specs.Prelude.{◌≡◌, map, string_bytes, Ok, Err};
 ghost use Rattle.pix_io.specs.Shown.{Shown};
-ghost use Rattle.sws_run.specs.Request.{asked_by};
+ghost use Rattle.sws_run.specs.Request.{asked_by, IsSoundReport};
 ghost use Rattle.sws_run.specs.Run.{GivesAnswer, GivesReadFault, GivesWriteFault, GivesOutOfMemory};
 ghost use Rattle.sws_run.specs.Run.{GivesNotes, IsComplete};
 
 use crate::Ended;
 use crate::convert::convert;
-use crate::format_list::list_text;
 use crate::notes_line::notes_line;
-use crate::request::{Request, request_of};
+use crate::report::{report_frames, report_text};
+use crate::request::{Report, Request, request_of};
+use frame_slices::Gate;
 use pix_io::{Sink, Source, write_all};
 use std::alloc::Global;
 use std::thread::Threads;
 use sws_words::{WordsEnd, read_words};
 
-/// What a worker passes after each claim of a slice.
-pub trait Gate: Sync {}
-
-/// The gate of the program, which lets every worker pass.
-#[derive(Clone, Copy, Debug)]
-pub struct OpenGate;
-
-impl Gate for OpenGate {}
-
-// Writes the list of formats.
-fn list<Out: Sink>(alloc: Global, output: &mut Out) -> Ended
-    ensures answer { (source : Shown) → GivesAnswer (Ok Request.List) source source
+// Writes a report.
+fn write_report<R: Threads + Sync, Out: Sink, G: Gate>(
+    rt: &R,
+    alloc: Global,
+    report: &Report,
+    output: &mut Out,
+    gate: &G,
+) -> Ended
+    requires { IsSoundReport report.now }
+    ensures answer { (source : Shown) → GivesAnswer (Ok (Request.Report report.now)) source source
         (Out.shown output.old)
         (Out.shown output.new) result }
-    ensures read_fault { (source : Shown) → GivesReadFault (Ok Request.List) source source
+    ensures read_fault { (source : Shown) → GivesReadFault (Ok (Request.Report report.now))
+        source source
         (Out.shown output.old)
         (Out.shown output.new) result }
-    ensures write_fault { (source : Shown) → GivesWriteFault (Ok Request.List) source source
+    ensures write_fault { (source : Shown) → GivesWriteFault (Ok (Request.Report report.now))
+        source source
         (Out.shown output.old)
         (Out.shown output.new) result }
-    ensures memory { (source : Shown) → GivesOutOfMemory (Ok Request.List) source source
+    ensures memory { (source : Shown) → GivesOutOfMemory (Ok (Request.Report report.now))
+        source source
         (Out.shown output.old)
         (Out.shown output.new) result }
     ensures complete { (source : Shown) → IsComplete source source (Out.shown output.old)
         (Out.shown output.new) result }
 {
-    let Ok(text) = list_text(alloc) else {
+    let Ok(text) = report_text(rt, alloc, report, gate) else {
         return Ended::OutOfMemory { frames: 0 };
     };
     match write_all(output, text.as_bytes()) {
-        Ok(()) => Ended::Done { frames: 0 },
+        Ok(()) => Ended::Done {
+            frames: report_frames(report),
+        },
         Err(_) => Ended::WriteFault { frames: 0 },
     }
 }
 
 // Does what the words ask for.
-fn run_words<In: Source, Out: Sink>(
+fn run_words<R: Threads + Sync, In: Source, Out: Sink, G: Gate>(
+    rt: &R,
     alloc: Global,
     words: &[String],
     input: &mut In,
     output: &mut Out,
+    gate: &G,
 ) -> Ended
     ensures answer { GivesAnswer (asked_by (map string_bytes words.now)) (In.shown input.old)
         (In.shown input.new) (Out.shown output.old) (Out.shown output.new) result }
@@ -75,25 +81,25 @@ fn run_words<In: Source, Out: Sink>(
         Err(WordsEnd::OutOfMemory) => return Ended::OutOfMemory { frames: 0 },
     };
     match request_of(&task) {
-        Ok(Request::Convert(conversion)) => convert(alloc, &conversion, input, output),
-        Ok(Request::List) => list(alloc, output),
+        Ok(Request::Convert(conversion)) => convert(rt, alloc, &conversion, input, output, gate),
+        Ok(Request::Report(report)) => write_report(rt, alloc, &report, output, gate),
         Err(refusal) => refusal,
     }
 }
 
 /// Runs the converter on the words after the program's name: converts a stream of frames from the
-/// input to the output, or writes the list of formats. The line of the ending is written to
+/// input to the output, or writes a report. The line of the ending is written to
 /// `notes`, whose faults change nothing else.
 ///
 /// The six clauses are records in `specs/Run.antt`.
 pub fn run_sws<R: Threads + Sync, In: Source, Out: Sink, Notes: Sink, G: Gate>(
-    _rt: &R,
+    rt: &R,
     alloc: Global,
     words: &[String],
     input: &mut In,
     output: &mut Out,
     notes: &mut Notes,
-    _gate: &G,
+    gate: &G,
 ) -> Ended
     ensures answer { GivesAnswer (asked_by (map string_bytes words.now)) (In.shown input.old)
         (In.shown input.new) (Out.shown output.old) (Out.shown output.new) result }
@@ -108,7 +114,7 @@ pub fn run_sws<R: Threads + Sync, In: Source, Out: Sink, Notes: Sink, G: Gate>(
     ensures complete { IsComplete (In.shown input.old) (In.shown input.new) (Out.shown output.old)
         (Out.shown output.new) result }
 {
-    let ended = run_words(alloc, words, input, output);
+    let ended = run_words(rt, alloc, words, input, output, gate);
     write_notes(notes, &ended);
     ended
 }

@@ -57,6 +57,14 @@ fn refuses_formats(rt: HostRuntime) -> Result<(), Fail> {
             "sws: format 2 Subsampled in\n",
         ),
         (
+            "--task ops --in yuv420p --out pal8",
+            "sws: format 2 Subsampled in\n",
+        ),
+        (
+            "--task generate --in rgb24 --out pal8 --seed 0",
+            "sws: format 6 PaletteTarget out\n",
+        ),
+        (
             "--in rgb25 --out rgb24 --size 2x2",
             "sws: format 1 Unknown in\n",
         ),

@@ -167,3 +167,72 @@ fn lists_the_formats(rt: HostRuntime) -> Result<(), Fail> {
     assert!(rt; text.contains("\nrgb565be BR 0,2,-1,3,5 0,2,0,5,6 0,2,0,0,5\n"));
     Ok(())
 }
+
+// Slices of three rows, of one and of all of them, by any number of workers.
+#[test]
+fn converts_in_slices(rt: HostRuntime) -> Result<(), Fail> {
+    let alloc = rt.alloc();
+    let rows = b"\0\x01\x02\x03\x04\x05\x06\x07\x08\x09";
+    let doubled = bytes_of(alloc, "0000010102020303040405050606070708080909")?;
+    for (slice, workers) in [("3", "7"), ("3", "1"), ("1", "64"), ("16384", "4")] {
+        let mut line = String::from_str(alloc, "--in gray --out gray16le --size 1x10 --slice ")?;
+        line.push_str(slice)?;
+        line.push_str(" --workers ")?;
+        line.push_str(workers)?;
+        converts(&rt, alloc, line.as_str(), rows, 1, &doubled)?;
+    }
+    Ok(())
+}
+
+// A run that reads nothing: its line, its number of frames and its text.
+fn reports<R: Abort + Threads + Sync>(
+    rt: &R,
+    alloc: Global,
+    line: &str,
+    frames: u32,
+    text: &str,
+) -> Result<(), AllocError> {
+    let outcome = run(rt, alloc, line, b"\x01", &QUIET)?;
+    assert_eq!(rt; outcome.ended, Ended::Done { frames }, "{line}");
+    assert_eq!(rt; outcome.output.as_slice(), text.as_bytes(), "{line}");
+    assert!(rt; outcome.notes.is_empty(), "{line}");
+    Ok(())
+}
+
+#[test]
+fn shows_lists_of_operations(rt: HostRuntime) -> Result<(), Fail> {
+    for (line, text) in [
+        (
+            "--task ops --in gray16le --out gray",
+            "read u16 1 0 0 0\nconvert rat\nlinear 0: 1/257 0 0 0 0\ndither 0\nmin 0=255\n\
+            convert u8\nwrite u8 1 0 0 0\n",
+        ),
+        (
+            "--task ops --in rgb24 --out 0rgb",
+            "read u8 3 0 0 0\nswizzle 0 0 1 2\nclear 0=0\nwrite u8 4 0 0 0\n",
+        ),
+        (
+            "--task ops --in gray --out gray16le",
+            "read u8 1 0 0 0\nconvert u16 expand\nwrite u16 1 0 0 0\n",
+        ),
+        (
+            "--task ops --in rgb24 --out bgr24",
+            "read u8 3 0 0 0\nswizzle 2 1 0 3\nwrite u8 3 0 0 0\n",
+        ),
+    ] {
+        reports(&rt, rt.alloc(), line, 0, text)?;
+    }
+    Ok(())
+}
+
+#[test]
+fn sums_made_frames(rt: HostRuntime) -> Result<(), Fail> {
+    for line in [
+        "--task generate --in rgb24 --out gray --seed 0",
+        "--task generate --in rgb24 --out gray --seed 0 --workers 7",
+    ] {
+        let text = "frames 4\nbytes 1048576\nsum 133717142\n";
+        reports(&rt, rt.alloc(), line, 4, text)?;
+    }
+    Ok(())
+}

@@ -1,11 +1,13 @@
-use Rattle.std.proofs.Common.{◌≡◌, length, Ok, sym, ap, ◌∙◌, subst, arith}
+use Rattle.std.proofs.Common.{◌≡◌, Ok, inl, refl, sym, ◌∙◌, subst, arith}
 use Rattle.pix_io.specs.Faults.{HasNoFault}
 use Rattle.pix_io.specs.Streams.{Writes, WritesPart}
+use Rattle.pix_io.proofs.Calls.{Writes-nil}
 use Rattle.sws_run.specs.Cut.{source_length}
-use Rattle.sws_run.proofs.Opened.{opening_some, source_length_is, target_length_is}
+use Rattle.sws_run.specs.Frames.{size_by}
+use Rattle.sws_run.proofs.Opened.{opening_some, source_length_is}
 use Rattle.sws_run.specs.declared.request.Request.TheVariants as request
 use Rattle.sws_run.specs.Run.{GivesAnswer, GivesReadFault, GivesWriteFault, GivesOutOfMemory, IsComplete}
-use Rattle.sws_run.proofs.Lifts.{answer_lift, read_lift, write_lift, complete_lift, no_memory_lift, header_write_fault, meets_told}
+use Rattle.sws_run.proofs.Lifts.{answer_lift, read_lift, write_lift, complete_lift, memory_lift, header_write_fault, meets_told}
 use Rattle.sws_run.proofs.Lifts.{exit_answer, exit_read_fault, exit_write_fault, exit_memory, exit_complete}
 use Rattle.sws_run.proofs.convert.convert.Goals as goal
 
@@ -57,32 +59,32 @@ returns-in-Err-write_all-clause-write_fault g c =
     let s1 = g.In.Source.shown c.input_header.new.input in
     let k0 = g.Out.Sink.shown c.args.output.now in
     let k1 = g.Out.Sink.shown c.write_all.new.output in
-    header_write_fault conversion header stream.converter (length stream.frame.items) s0 s1 k0 k1 c.in-Err-write_all.ensures.cause.failed
-    (meets_told conversion header stream.converter (length stream.frame.items) s0.bytes s1.bytes c.in-Ok-prepare.ensures.converter
-    c.in-Ok-prepare.ensures.frame c.in-Ok.ensures.header)
+    header_write_fault conversion header stream.converter (size_by stream.converter) s0 s1 k0 k1 c.in-Err-write_all.ensures.cause.failed
+    (meets_told conversion header stream.converter (size_by stream.converter) s0.bytes s1.bytes c.in-Ok-prepare.ensures.converter
+    (sym (source_length_is conversion header stream.converter c.in-Ok-prepare.ensures.converter)) c.in-Ok.ensures.header)
     (subst (WritesPart k0 k1) (c.deref.ensures.value ∙ c.in-Ok-prepare.ensures.text) c.in-Err-write_all.ensures.part_written)
 
 pub convert_frames-requires-clause-some : goal.convert_frames-requires-clause-some
 convert_frames-requires-clause-some g c =
-    omega (arith, ap length c.deref_mut.ensures.value, c.in-Ok-prepare.ensures.frame, opening_some c.in-Ok.header c.in-Ok.ensures.sound)
+    omega (
+      arith,
+      opening_some c.in-Ok.header c.in-Ok.ensures.sound,
+      source_length_is c.args.conversion.now c.in-Ok.header c.in-Ok-prepare.stream.converter c.in-Ok-prepare.ensures.converter,
+    )
 
-pub convert_frames-requires-clause-frame : goal.convert_frames-requires-clause-frame
-convert_frames-requires-clause-frame g c =
-    ap length c.deref_mut.ensures.value ∙ c.in-Ok-prepare.ensures.frame
-    ∙ source_length_is c.args.conversion.now c.in-Ok.header c.in-Ok-prepare.stream.converter c.in-Ok-prepare.ensures.converter
+pub convert_frames-requires-clause-workers : goal.convert_frames-requires-clause-workers
+convert_frames-requires-clause-workers g c = omega (arith, c.in-Ok-prepare.ensures.converter.workers, c.requires.workers)
 
-pub convert_frames-requires-clause-target : goal.convert_frames-requires-clause-target
-convert_frames-requires-clause-target g c =
-    ap length c.deref_mut-2.ensures.value ∙ c.in-Ok-prepare.ensures.target
-    ∙ target_length_is c.args.conversion.now c.in-Ok.header c.in-Ok-prepare.stream.converter c.in-Ok-prepare.ensures.converter
+pub returns-in_default-clause-memory : goal.returns-in_default-clause-memory
+returns-in_default-clause-memory g c = record { output = inl (refl, Writes-nil (g.Out.Sink.shown c.args.output.now)) }
 
 pub returns-clause-answer : goal.returns-clause-answer
 returns-clause-answer g c =
     let conversion = c.args.conversion.now in
     let header = c.in-Ok.header in
     let stream = c.in-Ok-prepare.stream in
-    let n = length c.deref_mut.result.now in
-    let long : n ≡ source_length header = ap length c.deref_mut.ensures.value ∙ c.in-Ok-prepare.ensures.frame in
+    let n = size_by stream.converter in
+    let long : n ≡ source_length header = sym (source_length_is conversion header stream.converter c.in-Ok-prepare.ensures.converter) in
     let s0 = g.In.Source.shown c.args.input.now in
     let s1 = g.In.Source.shown c.input_header.new.input in
     let s2 = g.In.Source.shown c.convert_frames.new.input in
@@ -100,8 +102,8 @@ returns-clause-read_fault g c =
     let conversion = c.args.conversion.now in
     let header = c.in-Ok.header in
     let stream = c.in-Ok-prepare.stream in
-    let n = length c.deref_mut.result.now in
-    let long : n ≡ source_length header = ap length c.deref_mut.ensures.value ∙ c.in-Ok-prepare.ensures.frame in
+    let n = size_by stream.converter in
+    let long : n ≡ source_length header = sym (source_length_is conversion header stream.converter c.in-Ok-prepare.ensures.converter) in
     let s0 = g.In.Source.shown c.args.input.now in
     let s1 = g.In.Source.shown c.input_header.new.input in
     let s2 = g.In.Source.shown c.convert_frames.new.input in
@@ -120,8 +122,8 @@ returns-clause-write_fault g c =
     let conversion = c.args.conversion.now in
     let header = c.in-Ok.header in
     let stream = c.in-Ok-prepare.stream in
-    let n = length c.deref_mut.result.now in
-    let long : n ≡ source_length header = ap length c.deref_mut.ensures.value ∙ c.in-Ok-prepare.ensures.frame in
+    let n = size_by stream.converter in
+    let long : n ≡ source_length header = sym (source_length_is conversion header stream.converter c.in-Ok-prepare.ensures.converter) in
     let s0 = g.In.Source.shown c.args.input.now in
     let s1 = g.In.Source.shown c.input_header.new.input in
     let s2 = g.In.Source.shown c.convert_frames.new.input in
@@ -149,6 +151,17 @@ returns-clause-complete g c =
 
 pub returns-clause-memory : goal.returns-clause-memory
 returns-clause-memory g c =
-    no_memory_lift c.args.conversion.now (g.In.Source.shown c.args.input.now) (g.In.Source.shown c.convert_frames.new.input)
-    (g.Out.Sink.shown c.args.output.now) (g.Out.Sink.shown c.convert_frames.new.output) c.convert_frames.result
-    c.convert_frames.ensures.memory
+    let conversion = c.args.conversion.now in
+    let header = c.in-Ok.header in
+    let stream = c.in-Ok-prepare.stream in
+    let n = size_by stream.converter in
+    let long : n ≡ source_length header = sym (source_length_is conversion header stream.converter c.in-Ok-prepare.ensures.converter) in
+    let s0 = g.In.Source.shown c.args.input.now in
+    let s1 = g.In.Source.shown c.input_header.new.input in
+    let k0 = g.Out.Sink.shown c.args.output.now in
+    let k1 = g.Out.Sink.shown c.write_all.new.output in
+    let told = meets_told conversion header stream.converter n s0.bytes s1.bytes c.in-Ok-prepare.ensures.converter long
+    c.in-Ok.ensures.header in
+    let wrote = subst (Writes k0 k1) (c.deref.ensures.value ∙ c.in-Ok-prepare.ensures.text) c.in-Ok-write_all.ensures.written in
+    memory_lift conversion header stream.converter n s0 s1 (g.In.Source.shown c.convert_frames.new.input) k0 k1
+    (g.Out.Sink.shown c.convert_frames.new.output) c.convert_frames.result told wrote c.convert_frames.ensures.memory

@@ -1,24 +1,26 @@
-use Rattle.std.proofs.Common.{◌≡◌, length, rules, arith, subst, inr, IfSome}
+use Rattle.std.proofs.Common.{◌≡◌, length, rules, arith, subst, inr, IfSome, sym}
 use Rattle.pix_io.proofs.Calls.{Rose-after}
+use Rattle.sws_run.specs.declared.ended.Ended.TheVariants.{Stream}
 use Rattle.sws_run.specs.Cut.{Clean, TooMany, Broken, Faulty, piece_cut, most_frames}
-use Rattle.sws_run.specs.Frames.{IfTold, TakesPiece, text_by}
+use Rattle.sws_run.specs.Frames.{EndsFrames, IfTold, IsFrameFor, TakesFrame, TakesPiece, size_by, source_held, target_held, text_by}
 use Rattle.sws_run.proofs.Runs.{start_place, start_texts, end_nothing, end_faulty, end_last, ends_as, texts_whole, stops_in_part}
-use Rattle.sws_run.proofs.Runs.{stops_at_last, text_is, next_place, has_text, next_texts, stops_writing}
+use Rattle.sws_run.proofs.Runs.{stops_at_last, text_is, next_place, has_text, next_texts, stops_writing, stops_for_memory, held_by, converted_by}
 use Rattle.sws_run.proofs.run.convert_frames.Goals as goal
 
 pub loop-done-init : goal.loop-done-init
 loop-done-init g c = record {
-  place = start_place c.args.converter.now (length c.args.frame.now) (g.In.Source.shown c.args.input.now).bytes;
-  written = start_texts c.args.converter.now (length c.args.frame.now) (g.In.Source.shown c.args.input.now).bytes
+  place = start_place c.args.converter.now (size_by c.args.converter.now) (g.In.Source.shown c.args.input.now).bytes;
+  written = start_texts c.args.converter.now (size_by c.args.converter.now) (g.In.Source.shown c.args.input.now).bytes
       (g.Out.Sink.shown c.args.output.now);
   reads = search rules;
   writes = search rules;
+  fits = c.requires.frame;
 }
 
 pub returns-in-Ok-End-clause-answer : goal.returns-in-Ok-End-clause-answer
 returns-in-Ok-End-clause-answer g c =
     let converter = c.args.converter.now in
-    let size = length c.args.frame.now in
+    let size = size_by converter in
     let k = c.loop-done.done in
     let a = (g.In.Source.shown c.args.input.now).bytes in
     let next = rw c.in-Ok-End.field-0-is at c.in-Ok-End.ensures.next in
@@ -35,33 +37,35 @@ returns-in-Ok-End-clause-answer g c =
 pub returns-in-Err-Stream-clause-answer : goal.returns-in-Err-Stream-clause-answer
 returns-in-Err-Stream-clause-answer g c =
     let converter = c.args.converter.now in
-    let size = length c.args.frame.now in
+    let size = size_by converter in
     let k = c.loop-done.done in
     let a = (g.In.Source.shown c.args.input.now).bytes in
     let b = (g.In.Source.shown c.loop-done.input).bytes in
     let fault = c.in-Err-Stream.fault in
     let known = rw c.in-Err-Stream.field-0-is at c.in-Err-Stream.ensures.known in
     let found = rw c.in-Err-Stream.field-0-is at c.in-Err-Stream.ensures.fault in
-    let long : length c.read_frame.new.frame ≡ size = omega arith in
+    let long = held_by converter c.loop-done.frame c.loop-done.invariant.fits in
     let is = subst (λ n. IfSome b (λ rest. piece_cut converter.source_form n rest ≡ Faulty fault)) long found in
     let frames = end_faulty converter size k fault a b c.loop-done-test.true c.loop-done.invariant.place is in
-    record {
+    subst (λ f. EndsFrames converter size (g.In.Source.shown c.args.input.now) (g.In.Source.shown c.read_frame.new.input)
+    (g.Out.Sink.shown c.args.output.now) (g.Out.Sink.shown c.loop-done.output) (Stream f k)) (sym c.in-Err-Stream.fault-is)
+    (record {
       known = λ _. inr (known, c.loop-done-test.true);
       ending = λ _. ends_as converter size k (Broken fault) a frames;
       output = λ _. texts_whole converter size k (Broken fault) a (g.Out.Sink.shown c.args.output.now)
           (g.Out.Sink.shown c.loop-done.output) frames c.loop-done.invariant.written;
       read = tt;
-    }
+    })
 
 pub returns-in-Err-ReadFault-clause-read_fault : goal.returns-in-Err-ReadFault-clause-read_fault
 returns-in-Err-ReadFault-clause-read_fault g c =
     let converter = c.args.converter.now in
-    let size = length c.args.frame.now in
+    let size = size_by converter in
     let a = (g.In.Source.shown c.args.input.now).bytes in
     let b = (g.In.Source.shown c.loop-done.input).bytes in
     let d = (g.In.Source.shown c.read_frame.new.input).bytes in
     let part = rw c.in-Err-ReadFault.field-0-is at c.in-Err-ReadFault.ensures.read_fault in
-    let long : length c.read_frame.new.frame ≡ size = omega arith in
+    let long = held_by converter c.loop-done.frame c.loop-done.invariant.fits in
     record {
       cause = Rose-after _ _ _ c.loop-done.invariant.reads.faults
           (rw c.in-Err-ReadFault.field-0-is at c.in-Err-ReadFault.ensures.cause).failed;
@@ -71,19 +75,22 @@ returns-in-Err-ReadFault-clause-read_fault g c =
           c.loop-done.invariant.written;
     }
 
-pub returns-in-Err-clause-write_fault : goal.returns-in-Err-clause-write_fault
-returns-in-Err-clause-write_fault g c =
+pub returns-in-Err-write_frame-clause-write_fault : goal.returns-in-Err-write_frame-clause-write_fault
+returns-in-Err-write_frame-clause-write_fault g c =
     let converter = c.args.converter.now in
-    let size = length c.args.frame.now in
+    let size = size_by converter in
     let k = c.loop-done.done in
     let a = (g.In.Source.shown c.args.input.now).bytes in
-    let frame = c.read_frame.new.frame in
-    let target = c.convert_rows.new.output in
-    let next = rw c.in-Ok-Frame.field-0-is at c.in-Ok-Frame.ensures.next in
-    let long : length frame ≡ size = omega arith in
+    let frame = source_held c.read_frame.new.frame in
+    let target = target_held c.in-Ok.converted in
+    let fits = subst (IsFrameFor converter) (sym c.read_frame.ensures.whole) c.loop-done.invariant.fits in
+    let is = converted_by converter c.read_frame.new.frame.whole frame target fits c.in-Ok.ensures.target in
+    let next = subst (λ n. IfTold (g.In.Source.shown c.loop-done.input).bytes (g.In.Source.shown c.read_frame.new.input).bytes
+    (TakesFrame converter.source_form n frame))
+    (held_by converter c.loop-done.frame c.loop-done.invariant.fits) (rw c.in-Ok-Frame.field-0-is at c.in-Ok-Frame.ensures.next) in
     let has = has_text converter size k frame a (g.In.Source.shown c.loop-done.input).bytes
-    (g.In.Source.shown c.read_frame.new.input).bytes c.loop-done-test.true long c.loop-done.invariant.place next in
-    let part = rw (text_is converter frame target c.convert_rows.ensures) at c.in-Err.ensures.part in
+    (g.In.Source.shown c.read_frame.new.input).bytes c.loop-done-test.true c.loop-done.invariant.place next in
+    let part = rw (text_is converter frame target is) at c.in-Err-write_frame.ensures.part in
     record {
       cause = search rules;
       place = stops_writing converter size k (text_by converter frame) a (g.Out.Sink.shown c.args.output.now)
@@ -94,30 +101,34 @@ returns-in-Err-clause-write_fault g c =
 pub loop-done-preserved : goal.loop-done-preserved
 loop-done-preserved g c =
     let converter = c.args.converter.now in
-    let size = length c.args.frame.now in
+    let size = size_by converter in
     let k = c.loop-done.done in
     let a = (g.In.Source.shown c.args.input.now).bytes in
     let b = (g.In.Source.shown c.loop-done.input).bytes in
     let d = (g.In.Source.shown c.read_frame.new.input).bytes in
-    let frame = c.read_frame.new.frame in
-    let target = c.convert_rows.new.output in
-    let next = rw c.in-Ok-Frame.field-0-is at c.in-Ok-Frame.ensures.next in
-    let long : length frame ≡ size = omega arith in
-    let has = has_text converter size k frame a b d c.loop-done-test.true long c.loop-done.invariant.place next in
-    let text = rw (text_is converter frame target c.convert_rows.ensures) at c.in-Ok.ensures.written in
+    let frame = source_held c.read_frame.new.frame in
+    let target = target_held c.in-Ok.converted in
+    let fits = subst (IsFrameFor converter) (sym c.read_frame.ensures.whole) c.loop-done.invariant.fits in
+    let is = converted_by converter c.read_frame.new.frame.whole frame target fits c.in-Ok.ensures.target in
+    let next = subst (λ n. IfTold (g.In.Source.shown c.loop-done.input).bytes (g.In.Source.shown c.read_frame.new.input).bytes
+    (TakesFrame converter.source_form n frame))
+    (held_by converter c.loop-done.frame c.loop-done.invariant.fits) (rw c.in-Ok-Frame.field-0-is at c.in-Ok-Frame.ensures.next) in
+    let has = has_text converter size k frame a b d c.loop-done-test.true c.loop-done.invariant.place next in
+    let text = rw (text_is converter frame target is) at c.in-Ok-write_frame.ensures.written in
     record {
-      place = next_place converter size k frame a b d c.loop-done-test.true long c.loop-done.invariant.place next;
+      place = next_place converter size k frame a b d c.loop-done-test.true c.loop-done.invariant.place next;
       written = next_texts converter size k (text_by converter frame) a (g.Out.Sink.shown c.args.output.now)
           (g.Out.Sink.shown c.loop-done.output) (g.Out.Sink.shown c.write_frame.new.output)
           has c.loop-done.invariant.written text;
       reads = search rules;
       writes = search rules;
+      fits = subst (IsFrameFor converter) (sym c.in-Ok.ensures.whole) fits;
     }
 
 pub returns-in-Ok-true-clause-answer : goal.returns-in-Ok-true-clause-answer
 returns-in-Ok-true-clause-answer g c =
     let converter = c.args.converter.now in
-    let size = length c.args.frame.now in
+    let size = size_by converter in
     let a = (g.In.Source.shown c.args.input.now).bytes in
     let b = (g.In.Source.shown c.loop-done.input).bytes in
     let k : c.loop-done.done ≡ 1000000 = omega arith in
@@ -134,7 +145,7 @@ returns-in-Ok-true-clause-answer g c =
 pub returns-in-Ok-false-clause-answer : goal.returns-in-Ok-false-clause-answer
 returns-in-Ok-false-clause-answer g c =
     let converter = c.args.converter.now in
-    let size = length c.args.frame.now in
+    let size = size_by converter in
     let a = (g.In.Source.shown c.args.input.now).bytes in
     let b = (g.In.Source.shown c.loop-done.input).bytes in
     let k : c.loop-done.done ≡ 1000000 = omega arith in
@@ -148,10 +159,10 @@ returns-in-Ok-false-clause-answer g c =
       read = tt;
     }
 
-pub returns-in-Err-is_at_end-clause-read_fault : goal.returns-in-Err-is_at_end-clause-read_fault
-returns-in-Err-is_at_end-clause-read_fault g c =
+pub returns-clause-read_fault : goal.returns-clause-read_fault
+returns-clause-read_fault g c =
     let converter = c.args.converter.now in
-    let size = length c.args.frame.now in
+    let size = size_by converter in
     let a = (g.In.Source.shown c.args.input.now).bytes in
     let b = (g.In.Source.shown c.loop-done.input).bytes in
     let d = (g.In.Source.shown c.is_at_end.new.input).bytes in
@@ -161,3 +172,21 @@ returns-in-Err-is_at_end-clause-read_fault g c =
       place = stops_at_last converter size a b d (g.Out.Sink.shown c.args.output.now) (g.Out.Sink.shown c.loop-done.output)
           (rw k at c.loop-done.invariant.place) c.in-Err-is_at_end.ensures.kept (rw k at c.loop-done.invariant.written);
     }
+
+pub convert-requires-clause-source : goal.convert-requires-clause-source
+convert-requires-clause-source g c = λ κs bound.
+    (subst (IsFrameFor c.args.converter.now) (sym c.read_frame.ensures.whole) c.loop-done.invariant.fits).source
+
+pub convert-requires-clause-target : goal.convert-requires-clause-target
+convert-requires-clause-target g c = λ κs bound.
+    (subst (IsFrameFor c.args.converter.now) (sym c.read_frame.ensures.whole) c.loop-done.invariant.fits).target
+
+pub read_frame-requires : goal.read_frame-requires
+read_frame-requires g c = omega (arith, held_by c.args.converter.now c.loop-done.frame c.loop-done.invariant.fits, c.requires.some)
+
+pub returns-in-Err-clause-memory : goal.returns-in-Err-clause-memory
+returns-in-Err-clause-memory g c =
+    let converter = c.args.converter.now in
+    stops_for_memory converter (size_by converter) c.loop-done.done (g.In.Source.shown c.args.input.now).bytes
+    (g.In.Source.shown c.loop-done.input).bytes (g.Out.Sink.shown c.args.output.now) (g.Out.Sink.shown c.loop-done.output)
+    c.loop-done.invariant.place c.loop-done.invariant.written

@@ -15,26 +15,28 @@ returns-in-Err-Usage-clause-answer g c =
     subst (λ f. GivesAnswer asked s s k k (Usage f)) (sym c.in-Err-Usage.fault-is)
     (refused_answer asked (Usage c.in-Err-Usage.fault) s k tt (ap request_of broken))
 
-pub returns-in-Ok-List-clause-answer : goal.returns-in-Ok-List-clause-answer
-returns-in-Ok-List-clause-answer g c =
+pub returns-in-Ok-Report-clause-answer : goal.returns-in-Ok-Report-clause-answer
+returns-in-Ok-Report-clause-answer g c =
     let s = g.In.Source.shown c.args.input.now in
     let k0 = g.Out.Sink.shown c.args.output.now in
-    let k1 = g.Out.Sink.shown c.list.new.output in
-    let value = rw c.in-Ok-List.field-0-is at c.in-Ok-List.ensures.value in
-    let asked : asked_by (map string_bytes c.args.words.now) ≡ Ok request.List = ap request_of c.in-Ok.ensures.task ∙ sym value in
-    subst (λ a. GivesAnswer a s s k0 k1 c.list.result) (sym asked) (c.list.ensures.answer s)
+    let k1 = g.Out.Sink.shown c.write_report.new.output in
+    let value = rw c.in-Ok-Report.field-0-is at c.in-Ok-Report.ensures.value in
+    let asked : asked_by (map string_bytes c.args.words.now) ≡ Ok (request.Report c.in-Ok-Report.report) =
+    ap request_of c.in-Ok.ensures.task ∙ sym value in
+    subst (λ a. GivesAnswer a s s k0 k1 c.write_report.result) (sym asked) (c.write_report.ensures.answer s)
 
-pub returns-in-Ok-List-clause-write_fault : goal.returns-in-Ok-List-clause-write_fault
-returns-in-Ok-List-clause-write_fault g c =
+pub returns-in-Ok-Report-clause-write_fault : goal.returns-in-Ok-Report-clause-write_fault
+returns-in-Ok-Report-clause-write_fault g c =
     let s = g.In.Source.shown c.args.input.now in
     let k0 = g.Out.Sink.shown c.args.output.now in
-    let k1 = g.Out.Sink.shown c.list.new.output in
-    let value = rw c.in-Ok-List.field-0-is at c.in-Ok-List.ensures.value in
-    let asked : asked_by (map string_bytes c.args.words.now) ≡ Ok request.List = ap request_of c.in-Ok.ensures.task ∙ sym value in
-    subst (λ a. GivesWriteFault a s s k0 k1 c.list.result) (sym asked) (c.list.ensures.write_fault s)
+    let k1 = g.Out.Sink.shown c.write_report.new.output in
+    let value = rw c.in-Ok-Report.field-0-is at c.in-Ok-Report.ensures.value in
+    let asked : asked_by (map string_bytes c.args.words.now) ≡ Ok (request.Report c.in-Ok-Report.report) =
+    ap request_of c.in-Ok.ensures.task ∙ sym value in
+    subst (λ a. GivesWriteFault a s s k0 k1 c.write_report.result) (sym asked) (c.write_report.ensures.write_fault s)
 
-pub returns-in-Ok-List-clause-complete : goal.returns-in-Ok-List-clause-complete
-returns-in-Ok-List-clause-complete g c = c.list.ensures.complete (g.In.Source.shown c.args.input.now)
+pub returns-in-Ok-Report-clause-complete : goal.returns-in-Ok-Report-clause-complete
+returns-in-Ok-Report-clause-complete g c = c.write_report.ensures.complete (g.In.Source.shown c.args.input.now)
 
 pub returns-in-Err-clause-answer : goal.returns-in-Err-clause-answer
 returns-in-Err-clause-answer g c =

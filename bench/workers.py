@@ -1,0 +1,87 @@
+#!/usr/bin/env python3
+"""How much faster four workers convert than one, and how much memory a large frame takes.
+
+    bench/workers.py PROGRAM [--frames N] [--size WxH] [--runs K]
+    bench/workers.py PROGRAM --memory
+
+The first form converts the same rgb24 frames to yuv444p with one worker and with four, in turn, and prints the
+frames a second of each and their ratio; of K runs the fastest of each counts. The second prints the peak memory of
+one 8192x4096 frame with 64 workers, in slices of one row and of 16384. The processors have to be free.
+"""
+import argparse
+import os
+import resource
+import subprocess
+import sys
+import tempfile
+import time
+
+
+def convert(program, source, width, height, workers, slice_height):
+    """Seconds that the conversion of a file takes."""
+    words = [program, "--in", "rgb24", "--out", "yuv444p", "--size", "%dx%d" % (width, height)]
+    words += ["--workers", str(workers), "--slice", str(slice_height)]
+    with open(source, "rb") as frames:
+        start = time.monotonic()
+        subprocess.run(words, stdin=frames, stdout=subprocess.DEVNULL, check=True)
+        return time.monotonic() - start
+
+
+def write_frames(path, width, height, frames):
+    """Frames whose bytes differ from each other."""
+    row = bytes((7 * x + x // 251) % 256 for x in range(3 * width))
+    with open(path, "wb") as out:
+        for y in range(frames * height):
+            turn = y % len(row)
+            out.write(row[turn:] + row[:turn])
+
+
+def speed(program, source, width, height, frames, runs):
+    write_frames(source, width, height, frames)
+    slice_height = max(1, height // 64)
+    best = {1: None, 4: None}
+    for _ in range(runs):
+        for workers in best:
+            seconds = convert(program, source, width, height, workers, slice_height)
+            best[workers] = seconds if best[workers] is None else min(best[workers], seconds)
+    for workers, seconds in best.items():
+        print("%d workers: %.3f frames a second" % (workers, frames / seconds))
+    print("ratio %.2f on %d processors" % (best[1] / best[4], os.cpu_count()))
+
+
+def memory(program, source):
+    width, height = 8192, 4096
+    write_frames(source, width, height, 1)
+    for slice_height in (1, 16384):
+        child = os.fork()
+        if child == 0:
+            convert(program, source, width, height, 64, slice_height)
+            peak = resource.getrusage(resource.RUSAGE_CHILDREN).ru_maxrss
+            frame = 3 * width * height
+            print("slice %d: peak %d KiB; source and target frame are %d KiB" % (slice_height, peak, 2 * frame // 1024))
+            sys.stdout.flush()
+            os._exit(0)
+        _, status = os.waitpid(child, 0)
+        if status != 0:
+            sys.exit("the run with slice %d failed" % slice_height)
+
+
+def main():
+    parser = argparse.ArgumentParser(description=__doc__, formatter_class=argparse.RawDescriptionHelpFormatter)
+    parser.add_argument("program")
+    parser.add_argument("--frames", type=int, default=2)
+    parser.add_argument("--size", default="640x480")
+    parser.add_argument("--runs", type=int, default=3)
+    parser.add_argument("--memory", action="store_true")
+    asked = parser.parse_args()
+    width, height = (int(n) for n in asked.size.split("x"))
+    with tempfile.TemporaryDirectory() as folder:
+        source = os.path.join(folder, "frames.rgb")
+        if asked.memory:
+            memory(asked.program, source)
+        else:
+            speed(asked.program, source, width, height, asked.frames, asked.runs)
+
+
+if __name__ == "__main__":
+    main()
