@@ -1,5 +1,5 @@
 -- The passes, each as a rule at a place.
-use Rattle.std.specs.Prelude.{List, [], ◌∷◌, Option}
+use Rattle.std.specs.Prelude.{◌≡◌, List, [], ◌∷◌, Option}
 use Rattle.op_list.specs.declared.types.Stage.{Stage}
 use Rattle.op_list.specs.declared.op.Op.{Op}
 use Rattle.op_range.specs.declared.range.ValueRange.{ValueRange}
@@ -40,3 +40,8 @@ passes =
     DropIdle ∷ JoinSwizzles ∷ JoinShifts ∷ CancelSwaps ∷ TrimClear ∷ TrimClamp ∷ DropDither ∷ JoinMaps ∷ SkipFraction ∷ ExpandBytes
     ∷ ResetUnused
     ∷ CancelPacking ∷ []
+
+-- a pass that looks at no ranges
+abbrev pub NeedsNoRanges : Pass → Type 0
+NeedsNoRanges pass = (stage : Stage) (ranges others : List ValueRange) (ops : List Op)
+    → change_at pass stage ranges ops ≡ change_at pass stage others ops
