@@ -6,7 +6,8 @@
 
 The first form converts the same rgb24 frames to yuv444p with one worker and with four, in turn, and prints the
 frames a second of each and their ratio; of K runs the fastest of each counts. The second prints the peak memory of
-one 8192x4096 frame with 64 workers, in slices of one row and of 16384. The processors have to be free.
+one 8192x4096 frame of rgb24 to bgr24 with 64 workers, in slices of one row and of 16384. The processors have to be
+free.
 """
 import argparse
 import os
@@ -17,9 +18,9 @@ import tempfile
 import time
 
 
-def convert(program, source, width, height, workers, slice_height):
-    """Seconds that the conversion of a file takes."""
-    words = [program, "--in", "rgb24", "--out", "yuv444p", "--size", "%dx%d" % (width, height)]
+def convert(program, source, target, width, height, workers, slice_height):
+    """Seconds that the conversion of a file of rgb24 frames takes."""
+    words = [program, "--in", "rgb24", "--out", target, "--size", "%dx%d" % (width, height)]
     words += ["--workers", str(workers), "--slice", str(slice_height)]
     with open(source, "rb") as frames:
         start = time.monotonic()
@@ -42,7 +43,7 @@ def speed(program, source, width, height, frames, runs):
     best = {1: None, 4: None}
     for _ in range(runs):
         for workers in best:
-            seconds = convert(program, source, width, height, workers, slice_height)
+            seconds = convert(program, source, "yuv444p", width, height, workers, slice_height)
             best[workers] = seconds if best[workers] is None else min(best[workers], seconds)
     for workers, seconds in best.items():
         print("%d workers: %.3f frames a second" % (workers, frames / seconds))
@@ -55,7 +56,7 @@ def memory(program, source):
     for slice_height in (1, 16384):
         child = os.fork()
         if child == 0:
-            convert(program, source, width, height, 64, slice_height)
+            convert(program, source, "bgr24", width, height, 64, slice_height)
             peak = resource.getrusage(resource.RUSAGE_CHILDREN).ru_maxrss
             frame = 3 * width * height
             print("slice %d: peak %d KiB; source and target frame are %d KiB" % (slice_height, peak, 2 * frame // 1024))
