@@ -13,7 +13,7 @@ use Rattle.frame_slices.specs.declared.sliced_frame.SlicedFrame.{SlicedFrame}
 use Rattle.pix_meaning.specs.Target.{target_frame}
 use Rattle.y4m_io.specs.declared.fault.StreamFault.{StreamFault}
 use Rattle.sws_run.specs.declared.run.Converter.{Converter}
-use Rattle.sws_run.specs.Cut.{Frame, Frames, End, Clean, Broken, Whole, Faulty, piece_cut, last_end, most_frames}
+use Rattle.sws_run.specs.Cut.{Frame, Frames, End, Clean, Broken, Faulty, piece_cut, last_end, most_frames}
 use Rattle.sws_run.specs.Cut.{whole_within}
 use Rattle.sws_run.specs.Output.{ending_at, front_in}
 use Rattle.sws_run.specs.Frames.{IfTold, IsBehind, IsFrameFor, TakesFrame, TakesPiece, text_by, frames_by, texts_by}

@@ -1,4 +1,4 @@
-use Rattle.std.proofs.Common.{◌≡◌, length, rules, arith, subst, inr, IfSome, sym}
+use Rattle.std.proofs.Common.{◌≡◌, rules, arith, subst, inr, IfSome, sym}
 use Rattle.pix_io.proofs.Calls.{Rose-after}
 use Rattle.sws_run.specs.declared.ended.Ended.TheVariants.{Stream}
 use Rattle.sws_run.specs.Cut.{Clean, TooMany, Broken, Faulty, piece_cut, most_frames}
