@@ -7,10 +7,12 @@ pub mod Evaluated
 pub mod PeakTests
 pub mod PeakClasses
 pub mod PeakPairs
+pub mod RowSteps
 pub mod Written
 pub mod ConvertedPixels
-pub mod ConvertedRows
+pub mod PixelRows
 pub mod PlannedPairs
+pub mod ConvertedRows
 pub mod SlicePlanes
 pub mod SliceBytes
 pub mod SliceTargets

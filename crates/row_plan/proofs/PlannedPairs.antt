@@ -4,7 +4,7 @@ use Rattle.op_list.specs.declared.types.PixType.{PixType}
 use Rattle.pix_desc.specs.Shape.{element_counts}
 use Rattle.op_build.specs.ElementType.{element_type}
 use Rattle.row_plan.specs.declared.plans.Plan.{Plan}
-use Rattle.row_plan.proofs.ConvertedRows.{IsPlanned}
+use Rattle.row_plan.proofs.PixelRows.{IsPlanned}
 
 pub planned : (plan : Plan) (elem : PixType) (planes : List ℕ) → elem ≡ element_type plan.pair.to.desc
     → planes ≡ element_counts plan.pair.to.desc

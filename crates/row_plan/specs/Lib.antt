@@ -3,3 +3,4 @@ pub mod PackedRgb
 pub mod Slices
 pub mod Rows
 pub mod Jobs
+pub mod Kernels

@@ -8,6 +8,7 @@
 mod job;
 pub mod laws;
 mod making;
+mod pixels;
 mod plans;
 mod rows;
 mod slice;

@@ -1,13 +1,17 @@
 // How a plan is made.
 ghost use Rattle.std.specs.Prelude.{◌≡◌, ◌↔◌, true, false, IfOk, IfErr, string_bytes};
 ghost use Rattle.pix_meaning.specs.Pairs.{IsValidPair};
+ghost use Rattle.op_list.specs.Typing.{ends_with_write};
 ghost use Rattle.op_build.specs.Recipe.{recipe};
 ghost use Rattle.op_opt.specs.Normal.{normal};
 ghost use Rattle.op_text.specs.Line.{text_of};
 ghost use Rattle.row_plan.specs.Evaluated.{IsPlannable};
+ghost use Rattle.row_plan.specs.Kernels.{list_or};
 
 use crate::plans::Plan;
+use kernel_int::{RowKernel, compile};
 use op_build::{BuildFault, build};
+use op_list::OpList;
 use op_opt::{NormalList, optimise};
 use op_text::print;
 use pix_meaning::Pair;
@@ -37,10 +41,22 @@ fn text_of(alloc: Global, list: &NormalList) -> Result<String, BuildFault>
     }
 }
 
+// The kernel of a list, where it has one.
+fn kernel_of(alloc: Global, list: &OpList) -> Result<Option<RowKernel>, BuildFault>
+    requires whole { ends_with_write list.now ≡ true }
+    ensures ok { IfOk result (λ kernel. list_or kernel list.now ≡ list.now) }
+    ensures fault { IfErr result (λ fault. fault ≡ BuildFault.OutOfMemory) }
+{
+    match compile(alloc, list) {
+        Ok(kernel) => Ok(kernel),
+        Err(_) => Err(BuildFault::OutOfMemory),
+    }
+}
+
 /// The plan of a pair that is valid, and fits where its target is no palette format: every pair of
 /// the table with named matrices is such a one (`laws::table_pairs_have_plans`). PaletteTarget
 /// comes exactly where the target is a palette format, and OutOfMemory where an allocation is
-/// refused.
+/// refused. All the memory that a conversion of rows takes is taken here.
 pub fn plan(alloc: Global, pair: &Pair, stamp: u64) -> Result<Plan, BuildFault>
     requires { IsPlannable pair.now }
     ensures pair { IfOk result (λ plan. plan.pair ≡ pair.now) }
@@ -52,11 +68,12 @@ pub fn plan(alloc: Global, pair: &Pair, stamp: u64) -> Result<Plan, BuildFault>
     let list = build(alloc, pair)?;
     let optimised = optimised(alloc, pair)?;
     let text = text_of(alloc, &optimised)?;
+    let kernel = kernel_of(alloc, optimised.list())?;
     Ok(Plan {
         pair: *pair,
         stamp,
         list,
-        optimised,
+        kernel,
         text,
     })
 }

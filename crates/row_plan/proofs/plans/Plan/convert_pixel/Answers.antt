@@ -3,7 +3,8 @@ use Rattle.std.specs.Prelude.{IsSome}
 use Rattle.op_list.specs.Typing.{ends_with_write}
 use Rattle.op_list.specs.Run.{read_length, checked_run}
 use Rattle.op_build.proofs.recipe.Frames.{reads_frames, is_whole}
-use Rattle.row_plan.proofs.ConvertedRows.{are_bytes, has_elements, evaluates, converts}
+use Rattle.row_plan.proofs.ConvertedRows.{are_bytes}
+use Rattle.row_plan.proofs.PixelRows.{has_elements, evaluates, converts}
 use Rattle.row_plan.proofs.PlannedPairs.{planned}
 use Rattle.row_plan.proofs.plans.Plan.convert_pixel.Goals as goal
 

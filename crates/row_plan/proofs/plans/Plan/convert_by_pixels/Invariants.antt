@@ -1,7 +1,7 @@
 -- The first pixels of the row are converted.
 use Rattle.std.proofs.Common.{◌≡◌, ◌+◌, ◌*◌, length}
 use Rattle.row_plan.specs.Rows.{IsConverted}
-use Rattle.row_plan.proofs.plans.Plan.convert_row.Given as goal
+use Rattle.row_plan.proofs.plans.Plan.convert_by_pixels.Given as goal
 
 abbrev pub invariant-loop-x : goal.invariant-loop-x
 invariant-loop-x l = record {

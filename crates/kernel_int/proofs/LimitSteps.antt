@@ -1,0 +1,38 @@
+-- Value v of a block, but at most or at least a limit.
+use Rattle.std.proofs.Common.{◌≡◌, ℕ, ◌+◌, ◌*◌, ◌<◌, List, ℤ, ◌*ℤ◌, slice_index_or}
+use Rattle.std.specs.Prelude.{Some}
+use Rattle.std.specs.Int.{Width}
+use Rattle.frac_math.specs.Fraction.{ℚ, min_ℚ, max_ℚ}
+use Rattle.kernel_int.specs.declared.form.Extent.{Extent}
+use Rattle.kernel_int.specs.Rules.{nearest}
+use Rattle.kernel_int.specs.ValueSteps.{AreIn, IsMaximum, IsMinimum, MakesValue}
+use Rattle.kernel_int.proofs.ValueFractions.{max_stands, min_stands, nearest_high, nearest_low}
+
+-- each number times k, but in the bounds of an extent
+abbrev pub Holds : {N : Type 0} → (N → ℤ) → ℤ → Extent → ℕ → List N → List N → Type 0
+Holds {N} value k new v old made = (i : ℕ) (d : N) → i < 64
+    → value (slice_index_or made (64 * v + i) d) ≡ nearest new.least new.greatest (k *ℤ value (slice_index_or old (64 * v + i) d))
+
+pub minimum : {N : Type 0} (value : N → ℤ) (width : Width) (limit : ℚ) (k : ℤ) (v : ℕ) (numbers made : List N) (old new : Extent)
+    → IsMinimum width old limit k new → AreIn value numbers v old → Holds value k new v numbers made
+    → MakesValue value numbers made v old new (λ i x. min_ℚ x limit)
+minimum {N} value width limit k v numbers made old new is within holds = record {
+  inside = λ i d below.
+      let m = k *ℤ value (slice_index_or numbers (64 * v + i) d) in
+      rw (holds i d below) (nearest_low new.least new.greatest m is.ordered, nearest_high new.least new.greatest m);
+  exact = λ i d x below stands.
+      let n = value (slice_index_or numbers (64 * v + i) d) in
+      rw (holds i d below) (min_stands width old limit k new x n is (within i d below) stands);
+}
+
+pub maximum : {N : Type 0} (value : N → ℤ) (width : Width) (limit : ℚ) (k : ℤ) (v : ℕ) (numbers made : List N) (old new : Extent)
+    → IsMaximum width old limit k new → AreIn value numbers v old → Holds value k new v numbers made
+    → MakesValue value numbers made v old new (λ i x. max_ℚ x limit)
+maximum {N} value width limit k v numbers made old new is within holds = record {
+  inside = λ i d below.
+      let m = k *ℤ value (slice_index_or numbers (64 * v + i) d) in
+      rw (holds i d below) (nearest_low new.least new.greatest m is.ordered, nearest_high new.least new.greatest m);
+  exact = λ i d x below stands.
+      let n = value (slice_index_or numbers (64 * v + i) d) in
+      rw (holds i d below) (max_stands width old limit k new x n is (within i d below) stands);
+}

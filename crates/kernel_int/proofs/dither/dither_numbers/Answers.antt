@@ -1,0 +1,7 @@
+use Rattle.std.proofs.Common.{◌<◌, arith}
+use Rattle.kernel_int.proofs.DitherSteps.{row_numbers}
+use Rattle.kernel_int.proofs.dither.dither_numbers.Goals as goal
+
+pub returns-clause-numbers : goal.returns-clause-numbers
+returns-clause-numbers c = row_numbers c.args.k c.args.x c.args.y c.loop-j.numbers c.requires
+    (λ j below. c.loop-j.invariant.set j (omega (arith, below)))

@@ -1,0 +1,14 @@
+use Rattle.std.proofs.Common.{rules, ◌≡◌, ◌+◌, ◌*◌, ◌/◌, max, pos, arith, FitsSigned, unsigned_abs}
+use Rattle.std.specs.Int.{w128}
+use Rattle.kernel_int.specs.Forms.{factor}
+use Rattle.kernel_int.specs.Joint.{IsAround, extent_size}
+use Rattle.kernel_int.proofs.JointValues.{raised_made}
+use Rattle.kernel_int.proofs.joint_value.joint_raised.Goals as goal
+
+pub returns-clause-made : goal.returns-clause-made
+returns-clause-made c =
+    let old = c.args.old.now in
+    let e = c.args.e in
+    let k : factor c.made.result.factors 0 ≡ pos e = search rules in
+    let around : IsAround c.made.result.extent (unsigned_abs old.denominator * e) (extent_size old * e) = search rules in
+    raised_made old c.made.result.extent e (factor c.made.result.factors 0) c.requires.positive c.requires.some.0 k c.requires.some.1 around c.requires.size

@@ -1,0 +1,7 @@
+use Rattle.std.proofs.Common.{subst, ◌≡◌, true}
+use Rattle.op_list.specs.Typing.{are_good}
+use Rattle.kernel_int.proofs.ValueBlocks.{dither_small}
+use Rattle.kernel_int.proofs.value_step.make_value.Goals as goal
+
+pub dither_value-requires-clause-good : goal.dither_value-requires-clause-good
+dither_value-requires-clause-good g c = dither_small c.args._stage c.in-Dither.k (rw c.in-Dither.is at c.requires.good)

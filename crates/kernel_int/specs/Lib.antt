@@ -1,0 +1,5 @@
+pub mod Block
+pub mod Forms
+pub mod Joint
+pub mod Rules
+pub mod ValueSteps

@@ -1,0 +1,166 @@
+// Forms within the width of a list, at 128 bits: four values, each over a denominator that divides the joint one.
+ghost use Rattle.std.specs.Prelude.{◌≡◌, ◌≤◌, ◌^◌, ℕ, ◌<◌, true, All, slice_index};
+ghost use Rattle.std.specs.Int.{w128};
+ghost use Rattle.kernel_int.specs.ValueSteps.{IsDivided};
+ghost use Rattle.op_list.specs.Apply.{row_of};
+ghost use Rattle.kernel_int.specs.Forms.{AreKept, IsCleared, IsConstant, IsMoved, IsNarrowed, IsWidened, extent_at, factor, factors_at};
+ghost use Rattle.kernel_int.specs.Joint.{MadeFits, MadeWithin, RowMade, RowWithin};
+
+use crate::form::{Divisor, Extent, Form, NO_DIVISOR};
+use crate::joint_made::joint_made;
+use crate::joint_row::joint_row;
+use crate::made::Made;
+use frac_math::Frac;
+use op_list::Op;
+
+/// The form after an operation that makes each value from that value alone: e is how many times the joint denominator grows, and d what it becomes.
+pub fn joint_made_form(op: &Op, before: &Form, e: u128, d: u128) -> Form
+    requires count { before.now.count ≡ 4 }
+    requires fits { (v : ℕ) → v < 4 → MadeFits op.now v (extent_at before.now v) e d }
+    ensures count { result.count ≡ 4 }
+    ensures made { (v : ℕ) → v < 4 → MadeWithin op.now v (extent_at before.now v) e d (factors_at result v) (extent_at result v) }
+{
+    let extents = before.extents;
+    let mut after = Form {
+        count: 0,
+        extents,
+        factors: [[0; 5]; 4],
+        divisors: [NO_DIVISOR; 4],
+    };
+    for v in 0..4 {
+        let extent = before.extents[v];
+        let made = joint_made(op, v, &extent, e, d);
+        let factors = made.factors;
+        after.count += 1;
+        after.factors[v] = factors;
+        after.extents[v] = made.extent;
+    }
+    after
+}
+
+/// The form after a Linear: e is the least common denominator of its rows, and d the joint denominator before it.
+pub fn joint_rows_form(rows: &[[Frac; 5]; 4], before: &Form, e: u128, d: u128) -> Form
+    requires { (v : ℕ) → v < 4 → RowWithin e d (row_of rows.now v) before.now }
+    ensures count { result.count ≡ 4 }
+    ensures rows { (v : ℕ) → v < 4 → RowMade e d (row_of rows.now v) before.now (factors_at result v) (extent_at result v) }
+{
+    let extents = before.extents;
+    let mut after = Form {
+        count: 0,
+        extents,
+        factors: [[0; 5]; 4],
+        divisors: [NO_DIVISOR; 4],
+    };
+    for v in 0..4 {
+        let made = joint_row(&rows[v], e, d, before);
+        let factors = made.factors;
+        after.count += 1;
+        after.factors[v] = factors;
+        after.extents[v] = made.extent;
+    }
+    after
+}
+
+/// Four values that stay what they are.
+pub fn joint_kept_form(before: &Form) -> Form
+    requires { before.now.count ≡ 4 }
+    ensures count { result.count ≡ 4 }
+    ensures kept { AreKept before.now result }
+{
+    Form {
+        count: 4,
+        extents: before.extents,
+        factors: [[0; 5]; 4],
+        divisors: [NO_DIVISOR; 4],
+    }
+}
+
+/// Four values that change places.
+pub fn joint_moved_form(from: &[u8; 4], before: &Form) -> Form
+    requires count { before.now.count ≡ 4 }
+    requires from { All (λ i. i < 4) from.now }
+    ensures count { result.count ≡ 4 }
+    ensures moved { (v : ℕ) → v < 4 → IsMoved before.now (slice_index from.now v) result v }
+{
+    let mut after = Form {
+        count: 0,
+        extents: before.extents,
+        factors: [[0; 5]; 4],
+        divisors: [NO_DIVISOR; 4],
+    };
+    for v in 0..4 {
+        let u = usize::from(from[v]);
+        after.count += 1;
+        after.extents[v] = before.extents[u];
+    }
+    after
+}
+
+/// Four values whose floors are taken by a division.
+pub fn joint_narrowed_form(before: &Form) -> Form
+    requires count { before.now.count ≡ 4 }
+    requires divisors { (v : ℕ) → v < 4 → IsDivided w128 0 (extent_at before.now v) Divisor.Plain }
+    ensures count { result.count ≡ 4 }
+    ensures narrowed { (bits v : ℕ) → v < 4 → IsNarrowed w128 bits before.now result v }
+{
+    Form {
+        count: 4,
+        extents: before.extents,
+        factors: [[0; 5]; 4],
+        divisors: [Divisor::Plain; 4],
+    }
+}
+
+/// Whole numbers of so many bits as numerators over 1.
+pub fn joint_widened_form(bits: u32) -> Form
+    requires { bits ≤ 32 }
+    ensures count { result.count ≡ 4 }
+    ensures widened { (v : ℕ) → v < 4 → IsWidened w128 (2 ^ bits) (extent_at result v) }
+{
+    let extent = widened_extent(bits);
+    Form {
+        count: 4,
+        extents: [extent; 4],
+        factors: [[0; 5]; 4],
+        divisors: [NO_DIVISOR; 4],
+    }
+}
+
+fn widened_extent(bits: u32) -> Extent
+    requires { bits ≤ 32 }
+    ensures { IsWidened w128 (2 ^ bits) result }
+{
+    Extent {
+        denominator: 1,
+        least: 0,
+        greatest: (1i128 << bits) - 1,
+    }
+}
+
+// What value v is cleared to: the entry alone, or what it was.
+fn joint_cleared(entry: &Option<Frac>, before: &Form, v: usize) -> Made
+    requires v { (v < 4) × (before.now.count ≡ 4) }
+    ensures { IsCleared w128 true before.now v entry.now (factor result.factors 0) result.extent }
+{
+    match entry {
+        None => Made {
+            factors: [0; 5],
+            extent: before.extents[v],
+        },
+        Some(x) => given(x),
+    }
+}
+
+fn given(x: &Frac) -> Made
+    ensures { IsConstant w128 x.now (factor result.factors 0) result.extent }
+{
+    let numerator = x.num();
+    Made {
+        factors: [numerator, 0, 0, 0, 0],
+        extent: Extent {
+            denominator: x.den(),
+            least: numerator,
+            greatest: numerator,
+        },
+    }
+}

@@ -1,0 +1,180 @@
+ghost use Rattle.std.specs.Prelude.{◌≡◌, ℕ, ◌*◌, ◌<◌, length, sum, slice_index};
+ghost use Rattle.op_list.specs.declared.position.PixelPosition.{PixelPosition};
+ghost use Rattle.op_list.specs.Pixel.{element_of, frame_length};
+ghost use Rattle.op_list.specs.Run.{run, read_length};
+ghost use Rattle.kernel_int.specs.Block.{IsOtherRow, position_at};
+ghost use Rattle.kernel_int.specs.Forms.{IsKernel, last_op, planes_of, elem_of, bits_of, width_of};
+
+use crate::form::{Form, Storage, Tier};
+use crate::row::run_blocks;
+use crate::whole_number::WholeNumber;
+use op_list::Op;
+use std::marker::Model;
+
+/// A whole list of operations, with the numbers that its blocks work with.
+#[derive(Drop)]
+pub struct RowKernel {
+    pub(crate) ops: Vec<Op>,
+    pub(crate) forms: Vec<Form>,
+    pub(crate) storage: Storage,
+    pub(crate) tier: Tier,
+}
+
+impl Model for RowKernel {
+    ghost use Rattle.std.specs.Prelude.{List};
+    ghost use Rattle.op_list.specs.declared.op.Op.{Op};
+
+    ghost Value = { List Op };
+
+    ghost use Rattle.kernel_int.specs.Forms.{IsKernel, bits_of, width_of};
+
+    ghost view = { λ k. k.ops.items };
+
+    ghost invariant = { λ k. IsKernel k.ops.items k.forms.items (bits_of k.storage) (width_of k.tier) };
+}
+
+impl RowKernel {
+    /// Runs the list on a row of pixels: each pixel of the row has the elements that the list means, and no other pixel is changed.
+    /// Input and output have the lengths that Read and Write state for `width` and `rows`; the dither goes by y. It takes no memory.
+    pub fn run_row(&self, input: &[u8], output: &mut [u8], width: u32, rows: u32, row: u32, y: u32)
+        requires input { length input.now ≡ read_length self.now width rows }
+        requires output { length output.old ≡ frame_length (last_op self.now) width rows }
+        requires row { row < rows }
+        ensures row { (x v : ℕ) → x < width → v < sum (planes_of (last_op self.now)) → element_of (elem_of (last_op self.now)) (planes_of (last_op self.now)) output.new (position_at width rows row y x) v ≡ slice_index (run self.now input.now width rows x row y) v }
+        ensures others { (other : PixelPosition) → IsOtherRow width rows row other → (v : ℕ) → element_of (elem_of (last_op self.now)) (planes_of (last_op self.now)) output.new other v ≡ element_of (elem_of (last_op self.now)) (planes_of (last_op self.now)) output.old other v }
+    {
+        match self.storage {
+            Storage::Bytes => {
+                let mut values = [0u8; 256];
+                let mut spare = [0u8; 256];
+                run_stored(
+                    &self.ops,
+                    &self.forms,
+                    self.tier,
+                    input,
+                    output,
+                    width,
+                    rows,
+                    row,
+                    y,
+                    &mut values,
+                    &mut spare,
+                )
+            }
+            Storage::Words => {
+                let mut values = [0u16; 256];
+                let mut spare = [0u16; 256];
+                run_stored(
+                    &self.ops,
+                    &self.forms,
+                    self.tier,
+                    input,
+                    output,
+                    width,
+                    rows,
+                    row,
+                    y,
+                    &mut values,
+                    &mut spare,
+                )
+            }
+            Storage::Longs => {
+                let mut values = [0u32; 256];
+                let mut spare = [0u32; 256];
+                run_stored(
+                    &self.ops,
+                    &self.forms,
+                    self.tier,
+                    input,
+                    output,
+                    width,
+                    rows,
+                    row,
+                    y,
+                    &mut values,
+                    &mut spare,
+                )
+            }
+        }
+    }
+}
+
+// The row, in blocks of this storage.
+fn run_stored<W: WholeNumber>(
+    ops: &[Op],
+    forms: &[Form],
+    tier: Tier,
+    input: &[u8],
+    output: &mut [u8],
+    width: u32,
+    rows: u32,
+    row: u32,
+    y: u32,
+    values: &mut [W],
+    spare: &mut [W],
+)
+    requires stored { IsKernel ops.now forms.now W.bits (width_of tier) }
+    requires input { length input.now ≡ read_length ops.now width rows }
+    requires output { length output.old ≡ frame_length (last_op ops.now) width rows }
+    requires row { row < rows }
+    requires block { (length values.old ≡ 256) × (length spare.old ≡ 256) }
+    ensures stored { (x v : ℕ) → x < width → v < sum (planes_of (last_op ops.now)) → element_of (elem_of (last_op ops.now)) (planes_of (last_op ops.now)) output.new (position_at width rows row y x) v ≡ slice_index (run ops.now input.now width rows x row y) v }
+    ensures others { (other : PixelPosition) → IsOtherRow width rows row other → (v : ℕ) → element_of (elem_of (last_op ops.now)) (planes_of (last_op ops.now)) output.new other v ≡ element_of (elem_of (last_op ops.now)) (planes_of (last_op ops.now)) output.old other v }
+{
+    match tier {
+        Tier::Narrow => {
+            let mut numbers = [0i32; 256];
+            let mut sums = [0i32; 256];
+            run_blocks(
+                ops,
+                forms,
+                input,
+                output,
+                width,
+                rows,
+                row,
+                y,
+                values,
+                spare,
+                &mut numbers,
+                &mut sums,
+            )
+        }
+        Tier::Wide => {
+            let mut numbers = [0i64; 256];
+            let mut sums = [0i64; 256];
+            run_blocks(
+                ops,
+                forms,
+                input,
+                output,
+                width,
+                rows,
+                row,
+                y,
+                values,
+                spare,
+                &mut numbers,
+                &mut sums,
+            )
+        }
+        Tier::Huge => {
+            let mut numbers = [0i128; 256];
+            let mut sums = [0i128; 256];
+            run_blocks(
+                ops,
+                forms,
+                input,
+                output,
+                width,
+                rows,
+                row,
+                y,
+                values,
+                spare,
+                &mut numbers,
+                &mut sums,
+            )
+        }
+    }
+}

@@ -1,0 +1,59 @@
+// Whole numbers times a power of two.
+ghost use Rattle.std.specs.Prelude.{◌≡◌, ℕ, ◌*◌, ◌/◌, ◌%◌, ◌^◌, ◌<◌, ◌≤◌, ◌⊎◌, true, length};
+ghost use Rattle.op_list.specs.Types.{bits_at, bits, is_whole_type, is_rational};
+ghost use Rattle.op_list.specs.Typing.{may_follow, are_good, stage_after};
+ghost use Rattle.op_list.specs.Whole.{reversed_bytes};
+ghost use Rattle.kernel_int.specs.Forms.{IsBounded, IsStep, Performs};
+
+use crate::form::Form;
+use crate::numerator::Numerator;
+use crate::rule::{NumberRule, map_values};
+use crate::whole_number::WholeNumber;
+use op_list::{Op, PixelPosition, Stage, shifted};
+
+// A number times 2^n, modulo 2^bits.
+#[derive(Clone, Copy)]
+struct ShiftedLeft {
+    n: u8,
+    bits: u32,
+}
+
+impl NumberRule for ShiftedLeft {
+    ghost stands = { λ r. (r.n < r.bits) × (r.bits ≤ 32) };
+
+    ghost makes = { λ r n. n * 2 ^ r.n % 2 ^ r.bits };
+
+    fn made(self, n: u32) -> u32 {
+        shifted(n, self.n, self.bits)
+    }
+}
+
+/// A LeftShift of the values of a block.
+pub fn left_shift_step<W: WholeNumber, N: Numerator>(
+    n: u8,
+    stage: Stage,
+    _position: &PixelPosition,
+    before: &Form,
+    after: &Form,
+    values: &mut [W],
+    _numbers: &[N],
+)
+    requires follows { may_follow stage (Op.LeftShift n) ≡ true }
+    requires good { are_good stage (Op.LeftShift n) ≡ true }
+    requires step { IsStep W.bits N.width stage before.now (Op.LeftShift n) after.now }
+    requires stored { 2 ^ bits_at (stage_after stage (Op.LeftShift n)) ≤ 2 ^ W.bits }
+    requires few { after.now.count ≤ 4 }
+    requires block { length values.old ≡ 256 }
+    requires bounded { IsBounded W.number N.value stage before.now values.old _numbers.now }
+    ensures bounded { IsBounded W.number N.value (stage_after stage (Op.LeftShift n)) after.now values.new _numbers.now }
+    ensures holds { Performs W.number N.value stage before.now (Op.LeftShift n) after.now _position.now values.old _numbers.now values.new _numbers.now }
+{
+    map_values(
+        values,
+        64 * after.count,
+        ShiftedLeft {
+            n,
+            bits: stage.bits(),
+        },
+    );
+}

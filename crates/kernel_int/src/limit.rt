@@ -1,0 +1,95 @@
+// Values that are held to a limit of their own.
+ghost use Rattle.std.specs.Prelude.{◌≡◌, ℕ, ◌+◌, ◌*◌, ◌<◌, ◌≤◌, ◌⊎◌, ◌*ℤ◌, ◌≤ℤ◌, ◌<ℤ◌, pos, length, slice_index_or, FitsSigned, IfSome};
+ghost use Rattle.frac_math.specs.Fraction.{nat};
+ghost use Rattle.kernel_int.specs.Forms.{factor, width_of};
+ghost use Rattle.kernel_int.specs.Rules.{nearest};
+ghost use Rattle.kernel_int.specs.ValueSteps.{IsScaled};
+
+use crate::form::{Extent, Tier};
+use crate::interval::fits;
+use crate::made::Made;
+use crate::numerator::Numerator;
+use crate::rational::clamp;
+use crate::row_form::number_over;
+use crate::scale::{multiple_for, multiplied, scale};
+use crate::single::with_single;
+use frac_math::Frac;
+
+// The least and the greatest number of an extent, as numerators.
+fn ends<N: Numerator>(extent: &Extent) -> (N, N)
+    requires least { FitsSigned N.width extent.now.least }
+    requires greatest { FitsSigned N.width extent.now.greatest }
+    ensures least { N.value result.0 ≡ extent.now.least }
+    ensures greatest { N.value result.1 ≡ extent.now.greatest }
+{
+    (N::of(extent.least), N::of(extent.greatest))
+}
+
+/// Value v of each pixel times the first factor, but from the least to the greatest number of an
+/// extent.
+pub fn hold_inside<N: Numerator>(numbers: &mut [N], v: usize, factors: &[i128; 5], new: &Extent)
+    requires block { (v < 4) × (length numbers.old ≡ 256) }
+    requires factor { FitsSigned N.width (factor factors.now 0) }
+    requires fits { (i : ℕ) (d : N) → i < 64
+        → FitsSigned N.width (factor factors.now 0
+        *ℤ N.value (slice_index_or numbers.old (64 * v + i) d)) }
+    requires least { FitsSigned N.width new.now.least }
+    requires greatest { FitsSigned N.width new.now.greatest }
+    ensures set { (i : ℕ) (d : N) → i < 64
+        → N.value (slice_index_or numbers.new (64 * v + i) d) ≡ nearest new.now.least
+        new.now.greatest (factor factors.now 0
+        *ℤ N.value (slice_index_or numbers.old (64 * v + i) d)) }
+    ensures kept { (j : ℕ) (d : N) → (j < 64 * v) ⊎ (64 * v + 64 ≤ j)
+        → slice_index_or numbers.new j d ≡ slice_index_or numbers.old j d }
+{
+    scale(numbers, v, factors);
+    let (least, greatest) = ends(new);
+    clamp(numbers, v, least, greatest);
+}
+
+/// An extent over a denominator that makes a limit whole: the factor that leads to it, and the
+/// limit over it.
+#[derive(Clone, Copy, Debug)]
+pub struct CommonExtent {
+    pub factor: i128,
+    pub extent: Extent,
+    pub limit: i128,
+}
+
+/// Brings an extent and a limit over one denominator, where a tier holds all of it.
+pub fn bring_over_one(old: &Extent, limit: &Frac, tier: Tier) -> Option<CommonExtent>
+    ensures scaled { IfSome result (λ both. IsScaled (width_of tier) old.now
+        (nat 1) both.factor both.extent) }
+    ensures positive { IfSome result (λ both. pos 0 <ℤ both.extent.denominator) }
+    ensures ordered { IfSome result (λ both. both.extent.least ≤ℤ both.extent.greatest) }
+    ensures least { IfSome result (λ both. FitsSigned (width_of tier) both.extent.least) }
+    ensures greatest { IfSome result (λ both. FitsSigned (width_of tier) both.extent.greatest) }
+    ensures number { IfSome result (λ both. both.limit *ℤ pos limit.now.denominator
+        ≡ limit.now.numerator *ℤ both.extent.denominator) }
+    ensures fits { IfSome result (λ both. FitsSigned (width_of tier) both.limit) }
+{
+    let factor = multiple_for(old.denominator, limit.den())?;
+    let extent = multiplied(old, factor, tier)?;
+    let number = number_over(limit, extent.denominator)?;
+    if !fits(number, tier) {
+        return None;
+    }
+    if extent.least > extent.greatest {
+        return None;
+    }
+    Some(CommonExtent {
+        factor,
+        extent,
+        limit: number,
+    })
+}
+
+/// What no limit makes of the numbers of an extent: the same.
+pub fn unlimited(old: &Extent, tier: Tier) -> Option<Made>
+    ensures { IfSome result (λ made. IsScaled (width_of tier) old.now (nat 1)
+        (factor made.factors 0) made.extent) }
+{
+    let extent = multiplied(old, 1, tier)?;
+    let factors = with_single(1);
+    Some(Made { factors, extent })
+}

@@ -1,0 +1,64 @@
+// Values that are at least a limit of their own.
+ghost use Rattle.std.specs.Prelude.{◌≡◌, ℕ, ◌+◌, ◌*◌, ◌<◌, ◌≤◌, ◌⊎◌, length, slice_index_or, IfSome};
+ghost use Rattle.op_list.specs.Apply.{at_least};
+ghost use Rattle.kernel_int.specs.Forms.{factor, width_of};
+ghost use Rattle.kernel_int.specs.ValueSteps.{AreIn, IsAtLeast, IsMaximum, MakesValue};
+
+use crate::form::{Extent, Tier};
+use crate::limit::{bring_over_one, hold_inside, unlimited};
+use crate::made::Made;
+use crate::numerator::Numerator;
+use crate::scale::scale;
+use crate::single::with_single;
+use frac_math::Frac;
+
+/// A Max of value v.
+pub fn max_value<N: Numerator>(
+    limit: &Option<Frac>,
+    numbers: &mut [N],
+    v: usize,
+    _old: &Extent,
+    factors: &[i128; 5],
+    new: &Extent,
+)
+    requires block { (v < 4) × (length numbers.old ≡ 256) }
+    requires is { IsAtLeast N.width _old.now limit.now (factor factors.now 0) new.now }
+    requires old { AreIn N.value numbers.old v _old.now }
+    ensures made { MakesValue N.value numbers.old numbers.new v _old.now new.now
+        (λ i x. at_least limit.now x) }
+    ensures kept { (j : ℕ) (d : N) → (j < 64 * v) ⊎ (64 * v + 64 ≤ j)
+        → slice_index_or numbers.new j d ≡ slice_index_or numbers.old j d }
+{
+    match limit {
+        None => scale(numbers, v, factors),
+        Some(_) => hold_inside(numbers, v, factors, new),
+    }
+}
+
+// The numbers of an extent, but at least a limit.
+fn at_least_limit(old: &Extent, limit: &Frac, tier: Tier) -> Option<Made>
+    ensures { IfSome result (λ made. IsMaximum (width_of tier) old.now limit.now
+        (factor made.factors 0) made.extent) }
+{
+    let both = bring_over_one(old, limit, tier)?;
+    let factors = with_single(both.factor);
+    Some(Made {
+        factors,
+        extent: Extent {
+            denominator: both.extent.denominator,
+            least: both.extent.least.max(both.limit),
+            greatest: both.extent.greatest.max(both.limit),
+        },
+    })
+}
+
+/// What a Max makes of the numbers of an extent.
+pub fn made_at_least(old: &Extent, limit: &Option<Frac>, tier: Tier) -> Option<Made>
+    ensures { IfSome result (λ made. IsAtLeast (width_of tier) old.now limit.now
+        (factor made.factors 0) made.extent) }
+{
+    match limit {
+        None => unlimited(old, tier),
+        Some(limit) => at_least_limit(old, limit, tier),
+    }
+}

@@ -1,0 +1,156 @@
+// Values times a factor of their own.
+ghost use Rattle.std.specs.Prelude.{◌≡◌, ℕ, ◌+◌, ◌*◌, ◌<◌, ◌≤◌, ◌⊎◌, pos, ◌*ℤ◌, ◌<ℤ◌, true, length, slice_index_or, unsigned_abs, FitsSigned, IfSome};
+ghost use Rattle.frac_math.specs.Fraction.{◌*ℚ◌, nat};
+ghost use Rattle.kernel_int.specs.declared.form.Extent.{Extent};
+ghost use Rattle.kernel_int.specs.Forms.{factor, width_of};
+ghost use Rattle.kernel_int.specs.ValueSteps.{AreIn, IsScaled, MakesValue};
+
+use crate::common::common_part;
+use crate::form::{Extent, Tier};
+use crate::interval::{fits, next_interval};
+use crate::made::Made;
+use crate::numerator::Numerator;
+use crate::row_form::product_of;
+use crate::single::with_single;
+use frac_math::Frac;
+
+// Value v of each pixel times k.
+#[inline(never)]
+fn multiply<N: Numerator>(numbers: &mut [N], v: usize, k: N)
+    requires block { (v < 4) × (length numbers.old ≡ 256) }
+    requires fits { (i : ℕ) (d : N) → i < 64
+        → FitsSigned N.width (N.value k *ℤ N.value (slice_index_or numbers.old (64 * v + i) d)) }
+    ensures set { (i : ℕ) (d : N) → i < 64 → N.value (slice_index_or numbers.new (64 * v + i) d)
+        ≡ N.value k *ℤ N.value (slice_index_or numbers.old (64 * v + i) d) }
+    ensures kept { (j : ℕ) (d : N) → (j < 64 * v) ⊎ (64 * v + 64 ≤ j)
+        → slice_index_or numbers.new j d ≡ slice_index_or numbers.old j d }
+{
+    for i in 0..64 {
+        numbers[64 * v + i] = numbers[64 * v + i].times(k);
+    }
+}
+
+// Whether the first factor is 1.
+fn is_one(factors: &[i128; 5]) -> bool
+    ensures { result ≡ true → factor factors.now 0 ≡ pos 1 }
+{
+    factors[0] == 1
+}
+
+/// Factor j as a numerator.
+pub fn numerator<N: Numerator>(factors: &[i128; 5], j: usize) -> N
+    requires inside { j < 5 }
+    requires fits { FitsSigned N.width (factor factors.now j) }
+    ensures { N.value result ≡ factor factors.now j }
+{
+    N::of(factors[j])
+}
+
+/// Value v of each pixel times the first factor, which is mostly 1.
+pub fn scale<N: Numerator>(numbers: &mut [N], v: usize, factors: &[i128; 5])
+    requires block { (v < 4) × (length numbers.old ≡ 256) }
+    requires factor { FitsSigned N.width (factor factors.now 0) }
+    requires fits { (i : ℕ) (d : N) → i < 64
+        → FitsSigned N.width (factor factors.now 0
+        *ℤ N.value (slice_index_or numbers.old (64 * v + i) d)) }
+    ensures set { (i : ℕ) (d : N) → i < 64 → N.value (slice_index_or numbers.new (64 * v + i) d)
+        ≡ factor factors.now 0 *ℤ N.value (slice_index_or numbers.old (64 * v + i) d) }
+    ensures kept { (j : ℕ) (d : N) → (j < 64 * v) ⊎ (64 * v + 64 ≤ j)
+        → slice_index_or numbers.new j d ≡ slice_index_or numbers.old j d }
+{
+    if is_one(factors) {
+        return;
+    }
+    multiply(numbers, v, numerator(factors, 0));
+}
+
+/// A Scale of value v.
+pub fn scale_value<N: Numerator>(
+    _by: &Frac,
+    numbers: &mut [N],
+    v: usize,
+    _old: &Extent,
+    factors: &[i128; 5],
+    _new: &Extent,
+)
+    requires block { (v < 4) × (length numbers.old ≡ 256) }
+    requires is { IsScaled N.width _old.now _by.now (factor factors.now 0) _new.now }
+    requires old { AreIn N.value numbers.old v _old.now }
+    ensures made { MakesValue N.value numbers.old numbers.new v _old.now _new.now
+        (λ i x. x *ℚ _by.now) }
+    ensures kept { (j : ℕ) (d : N) → (j < 64 * v) ⊎ (64 * v + 64 ≤ j)
+        → slice_index_or numbers.new j d ≡ slice_index_or numbers.old j d }
+{
+    scale(numbers, v, factors);
+}
+
+// Whether k over a new denominator is `by` times 1 over the old one.
+fn is_factor(old: i128, by: &Frac, k: i128, new: i128) -> Option<bool>
+    requires old { pos 0 <ℤ old }
+    requires new { pos 0 <ℤ new }
+    ensures { IfSome result (λ is. is ≡ true
+        → k *ℤ pos (unsigned_abs old * by.now.denominator)
+        ≡ by.now.numerator *ℤ pos (unsigned_abs new)) }
+{
+    let below = product_of(old, by.den())?;
+    Some(product_of(k, below)? == product_of(by.num(), new)?)
+}
+
+/// The numbers of an extent times k, over a new denominator, where that is `by` times their
+/// fractions and a tier holds
+/// all of it.
+pub fn scaled_by(old: &Extent, by: &Frac, k: i128, denominator: i128, tier: Tier) -> Option<Extent>
+    ensures scaled { IfSome result (λ new. IsScaled (width_of tier) old.now by.now k new) }
+    ensures positive { IfSome result (λ new. pos 0 <ℤ new.denominator) }
+    ensures least { IfSome result (λ new. FitsSigned (width_of tier) new.least) }
+    ensures greatest { IfSome result (λ new. FitsSigned (width_of tier) new.greatest) }
+{
+    if old.denominator <= 0 {
+        return None;
+    }
+    if denominator <= 0 {
+        return None;
+    }
+    if !is_factor(old.denominator, by, k, denominator)? {
+        return None;
+    }
+    if !fits(k, tier) {
+        return None;
+    }
+    let range = next_interval(0, 0, k, old.least, old.greatest, tier)?;
+    Some(Extent {
+        denominator,
+        least: range.0,
+        greatest: range.1,
+    })
+}
+
+/// The same fractions over k times the denominator.
+pub fn multiplied(old: &Extent, k: i128, tier: Tier) -> Option<Extent>
+    ensures scaled { IfSome result (λ new. IsScaled (width_of tier) old.now (nat 1) k new) }
+    ensures positive { IfSome result (λ new. pos 0 <ℤ new.denominator) }
+    ensures least { IfSome result (λ new. FitsSigned (width_of tier) new.least) }
+    ensures greatest { IfSome result (λ new. FitsSigned (width_of tier) new.greatest) }
+{
+    let denominator = product_of(old.denominator, k)?;
+    scaled_by(old, &Frac::whole(1), k, denominator, tier)
+}
+
+/// The least k by which a denominator becomes a multiple of another one.
+pub fn multiple_for(denominator: i128, other: i128) -> Option<i128> {
+    let common = common_part(other, denominator)?;
+    Some(other / common)
+}
+
+/// What a Scale makes of the numbers of an extent, over the least denominator.
+pub fn scaled(old: &Extent, by: &Frac, tier: Tier) -> Option<Made>
+    ensures { IfSome result (λ made. IsScaled (width_of tier) old.now by.now
+        (factor made.factors 0) made.extent) }
+{
+    let common = common_part(by.num(), old.denominator)?;
+    let k = by.num() / common;
+    let denominator = product_of(old.denominator / common, by.den())?;
+    let extent = scaled_by(old, by, k, denominator, tier)?;
+    let factors = with_single(k);
+    Some(Made { factors, extent })
+}

@@ -1,0 +1,86 @@
+// Whole numbers become fractions.
+ghost use Rattle.std.specs.Prelude.{◌≡◌, ℕ, ◌+◌, ◌*◌, ◌^◌, ◌<◌, ◌≤◌, pos, length, slice_index_or, IfSome, FitsSigned};
+ghost use Rattle.op_list.specs.declared.types.PixType.TheVariants.{Rat};
+ghost use Rattle.op_list.specs.Typing.{stage_after};
+ghost use Rattle.kernel_int.specs.Forms.{AreWidened, IsBounded, IsWidened, Performs, width_of};
+
+use crate::form::{Extent, Form, NO_DIVISOR, Tier};
+use crate::interval::fits;
+use crate::numerator::Numerator;
+use crate::whole_number::WholeNumber;
+use op_list::{Op, PixelPosition, Stage};
+
+// The first n whole numbers as numerators.
+#[inline(never)]
+fn widen<W: WholeNumber, N: Numerator>(values: &[W], n: usize, numbers: &mut [N])
+    requires block { (n ≤ 256) × (length values.now ≡ 256) × (length numbers.old ≡ 256) }
+    requires fit { (j : ℕ) (d : W) → j < n → FitsSigned N.width (pos (W.number (slice_index_or values.now j d))) }
+    ensures { (j : ℕ) (d : W) (e : N) → j < n → N.value (slice_index_or numbers.new j e) ≡ pos (W.number (slice_index_or values.now j d)) }
+{
+    for j in 0..n {
+        numbers[j] = N::of(i128::from(values[j].wide()));
+    }
+}
+
+/// A Convert of whole numbers to fractions.
+pub fn widen_step<W: WholeNumber, N: Numerator>(
+    expand: bool,
+    stage: Stage,
+    _position: &PixelPosition,
+    before: &Form,
+    after: &Form,
+    values: &[W],
+    numbers: &mut [N],
+)
+    requires widened { AreWidened N.width stage before.now after.now }
+    requires few { after.now.count ≤ 4 }
+    requires block { (length values.now ≡ 256) × (length numbers.old ≡ 256) }
+    requires bounded { IsBounded W.number N.value stage before.now values.now numbers.old }
+    ensures bounded { IsBounded W.number N.value (stage_after stage (Op.Convert Rat expand)) after.now values.now numbers.new }
+    ensures holds { Performs W.number N.value stage before.now (Op.Convert Rat expand) after.now _position.now values.now numbers.old values.now numbers.new }
+{
+    widen(values, 64 * after.count, numbers);
+}
+
+/// The form after a Convert of whole numbers to fractions.
+pub fn widen_form(stage: Stage, before: &Form, count: usize, tier: Tier) -> Option<Form>
+    ensures few { IfSome result (λ form. form.count ≤ 4) }
+    ensures widened { IfSome result (λ form. AreWidened (width_of tier) stage before.now form) }
+{
+    if count > 4 {
+        return None;
+    }
+    if before.count < count {
+        return None;
+    }
+    if !stage.is_whole() {
+        return None;
+    }
+    let extent = widened(stage.bits(), tier)?;
+    Some(Form {
+        count,
+        extents: [extent; 4],
+        factors: [[0; 5]; 4],
+        divisors: [NO_DIVISOR; 4],
+    })
+}
+
+// The whole numbers of so many bits, over 1.
+fn widened(bits: u32, tier: Tier) -> Option<Extent>
+    ensures { IfSome result (λ extent. IsWidened (width_of tier) (2 ^ bits) extent) }
+{
+    let greatest = match bits {
+        8 => 255,
+        16 => 65_535,
+        32 => 4_294_967_295,
+        _ => return None,
+    };
+    if !fits(greatest, tier) {
+        return None;
+    }
+    Some(Extent {
+        denominator: 1,
+        least: 0,
+        greatest,
+    })
+}

@@ -1,0 +1,55 @@
+// The forms after operations on fractions that make each value from that value alone.
+ghost use Rattle.std.specs.Prelude.{◌≡◌, ◌<◌, ◌≤◌, IfSome};
+ghost use Rattle.kernel_int.specs.Forms.{AreMade, factor, width_of};
+ghost use Rattle.kernel_int.specs.ValueSteps.{IsMade};
+
+use crate::dither::dithered;
+use crate::form::{Extent, Form, NO_DIVISOR, Tier};
+use crate::made::Made;
+use crate::max::made_at_least;
+use crate::min::made_at_most;
+use crate::scale::scaled;
+use op_list::Op;
+
+// What an operation makes of value v.
+fn made_of(op: &Op, v: usize, old: &Extent, tier: Tier) -> Option<Made>
+    requires { v < 4 }
+    ensures { IfSome result (λ made. IsMade (width_of tier) op.now v old.now
+        (factor made.factors 0) (factor made.factors 1) made.extent) }
+{
+    match op {
+        Op::Scale { by } => scaled(old, by, tier),
+        Op::Min { limits } => made_at_most(old, &limits[v], tier),
+        Op::Max { limits } => made_at_least(old, &limits[v], tier),
+        Op::Dither { k } => dithered(old, *k, tier),
+        _ => None,
+    }
+}
+
+/// The form after an operation that makes each value from that value alone.
+pub fn value_form(op: &Op, before: &Form, count: usize, tier: Tier) -> Option<Form>
+    ensures few { IfSome result (λ form. form.count ≤ 4) }
+    ensures made { IfSome result (λ form. AreMade (width_of tier) before.now op.now form) }
+{
+    if count > 4 {
+        return None;
+    }
+    let extents = before.extents;
+    let mut after = Form {
+        count: 0,
+        extents,
+        factors: [[0; 5]; 4],
+        divisors: [NO_DIVISOR; 4],
+    };
+    for v in 0..count {
+        if before.count <= v {
+            return None;
+        }
+        let made = made_of(op, v, &before.extents[v], tier)?;
+        let factors = made.factors;
+        after.count += 1;
+        after.factors[v] = factors;
+        after.extents[v] = made.extent;
+    }
+    Some(after)
+}
