@@ -1,5 +1,6 @@
 -- What the checked calls answer, as computed and as stated.
-use Rattle.std.proofs.Common.{ap, ◌≡◌, ◌^◌, Bool, true, false, not, ◌&&◌, if◌then◌else◌, ltb-true, lt-ltb, ℤ, pos, negsuc, ◌+ℤ◌, ◌*ℤ◌, refl, arith}
+use Rattle.std.proofs.Common.{ap, ◌≡◌, ◌^◌, Bool, true, false, not, ◌&&◌, if◌then◌else◌, ltb-true, lt-ltb, ℤ, pos, negsuc, ◌+ℤ◌, ◌*ℤ◌, refl}
+use Rattle.std.proofs.Common.{arith}
 use Rattle.std.proofs.lemmas.Int.{ints}
 use Rattle.std.proofs.lemmas.Bool.Decides.{Decides-int_eq}
 use Rattle.std.specs.Prelude.{Option, Some, None}
@@ -7,7 +8,8 @@ use Rattle.std.specs.Option.{SomeIff}
 use Rattle.std.specs.Ordering.{int_eq}
 use Rattle.std.specs.Int.{int_signum}
 use Rattle.frac_math.specs.Fraction.{ℚ, ratio, ◌+ℚ◌, ◌*ℚ◌, ◌/ℚ◌}
-use Rattle.frac_math.specs.Checked.{Fits, is_i128, RatioFits, SumFits, ProductFits, QuotientFits, checked_ratio, checked_sum, checked_product, checked_quotient}
+use Rattle.frac_math.specs.Checked.{Fits, is_i128, RatioFits, SumFits, ProductFits, QuotientFits, checked_ratio, checked_sum}
+use Rattle.frac_math.specs.Checked.{checked_product, checked_quotient}
 use Rattle.frac_math.proofs.FractionRing.{and_left, and_right}
 
 -- the test of a range, and the range

@@ -1,5 +1,6 @@
 -- The greatest whole number that is not above a fraction.
-use Rattle.std.proofs.Common.{◌≡◌, ℕ, ◌+◌, ◌*◌, ◌/◌, ◌<◌, ◌≤◌, ℤ, pos, negsuc, ◌+ℤ◌, ◌*ℤ◌, ◌≤ℤ◌, ◌<ℤ◌, [], ◌∷◌, refl, sym, ◌∙◌, ap, subst, arith}
+use Rattle.std.proofs.Common.{◌≡◌, ℕ, ◌+◌, ◌*◌, ◌/◌, ◌<◌, ◌≤◌, ℤ, pos, negsuc, ◌+ℤ◌, ◌*ℤ◌, ◌≤ℤ◌, ◌<ℤ◌, [], ◌∷◌, refl, sym, ◌∙◌, ap, subst}
+use Rattle.std.proofs.Common.{arith}
 use Rattle.std.proofs.lemmas.Int.{ints, clamps, by_lt_z}
 use Rattle.std.specs.Int.{int_div_euclid, int_min, int_max}
 use borrow.Author.Differences.{product_is, at_most_in, le_out}
@@ -10,7 +11,8 @@ use Rattle.frac_math.specs.Standing.{Stands}
 use Rattle.frac_math.proofs.Ring.{var, num, ◌⊕◌}
 use Rattle.frac_math.proofs.Integers.{mul-one_ℤ}
 use Rattle.frac_math.proofs.FractionRing.{denominator_positive, itself, whole-add}
-use Rattle.frac_math.proofs.FractionOrder.{also, end, le_by_cross, cross_by_le, le_refl_ℚ, lt_not_le_ℚ, lt_of_not_le_ℚ, le_from, lt_from, le_trans_ℚ, add_le_ℚ, add_lt_ℚ, min_cases, max_cases}
+use Rattle.frac_math.proofs.FractionOrder.{also, end, le_by_cross, cross_by_le, le_refl_ℚ, lt_not_le_ℚ, lt_of_not_le_ℚ, le_from, lt_from}
+use Rattle.frac_math.proofs.FractionOrder.{le_trans_ℚ, add_le_ℚ, add_lt_ℚ, min_cases, max_cases}
 
 -- ---- floor
 le_floor_ℤ : (z n : ℤ) (d : ℕ) → 0 < d → (z *ℤ pos d) ≤ℤ n → z ≤ℤ int_div_euclid n (pos d)

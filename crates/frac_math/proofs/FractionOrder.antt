@@ -1,5 +1,6 @@
 -- The order of fractions, and the lesser and the greater of two.
-use Rattle.std.proofs.Common.{◌≡◌, ℕ, zero, suc, ◌+◌, ◌*◌, ◌<◌, ◌≤◌, true, false, ℤ, pos, negsuc, ◌*ℤ◌, ◌≤ℤ◌, ◌<ℤ◌, List, [], ◌∷◌, if◌then◌else◌, Ordering, Less, Equal, Greater, ◌⊎◌, inl, inr, refl, sym, ap, subst, arith}
+use Rattle.std.proofs.Common.{◌≡◌, ℕ, zero, suc, ◌+◌, ◌*◌, ◌<◌, ◌≤◌, true, false, ℤ, pos, negsuc, ◌*ℤ◌, ◌≤ℤ◌, ◌<ℤ◌, List, [], ◌∷◌}
+use Rattle.std.proofs.Common.{if◌then◌else◌, Ordering, Less, Equal, Greater, ◌⊎◌, inl, inr, refl, sym, ap, subst, arith}
 use Rattle.std.proofs.lemmas.Int.{ints, by_lt_z}
 use borrow.Author.Differences.{up, down, product_is, at_most_in, le_out}
 use native.Mathlib.Nat.{mul-le-mul_right, le_of_mul-le-mul_right}
@@ -9,7 +10,8 @@ use Rattle.frac_math.specs.Fraction.{ℚ, order, whole, ratio, neg_ℚ, inverse,
 use Rattle.frac_math.specs.Standing.{Stands}
 use Rattle.frac_math.proofs.Ring.{Expr, var, num, ◌⊕◌, ◌⊖◌, ◌⊗◌, minus, ring, ring_from, normal, value, done, by}
 use Rattle.frac_math.proofs.Integers.{ints_ring}
-use Rattle.frac_math.proofs.FractionRing.{denominator_positive, itself, over_stands, add_stands, mul_stands, neg_stands, fractions, product_positive, cross_same, mul-inverse}
+use Rattle.frac_math.proofs.FractionRing.{denominator_positive, itself, over_stands, add_stands, mul_stands, neg_stands, fractions}
+use Rattle.frac_math.proofs.FractionRing.{product_positive, cross_same, mul-inverse}
 
 -- ---- order
 pub mono_ℤ : (a b : ℤ) (c : ℕ) → a ≤ℤ b → (a *ℤ pos c) ≤ℤ (b *ℤ pos c)

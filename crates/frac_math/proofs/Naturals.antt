@@ -3,7 +3,8 @@ use Rattle.std.proofs.Common.{◌≡◌, ℕ, ◌-◌, ◌*◌, ◌<◌, ◌≤�
 use Rattle.frac_math.specs.Fraction.{ℚ, nat, over, ◌+ℚ◌, ◌*ℚ◌, ◌-ℚ◌, ◌/ℚ◌, ratio, inverse, neg_ℚ}
 use Rattle.frac_math.proofs.Ring.{var, num, ◌⊕◌, ◌⊖◌, ◌⊗◌, ring, ring_from, done, by}
 use Rattle.frac_math.proofs.Integers.{ints_ring}
-use Rattle.frac_math.proofs.FractionRing.{fractions, same, itself, over_stands, mul_stands, neg_stands, whole-add, whole-mul, inverse_stands}
+use Rattle.frac_math.proofs.FractionRing.{fractions, same, itself, over_stands, mul_stands, neg_stands, whole-add, whole-mul}
+use Rattle.frac_math.proofs.FractionRing.{inverse_stands}
 
 pub nat-sub : (a b : ℕ) → b ≤ a → nat a -ℚ nat b ≡ nat (a - b)
 nat-sub a b h =

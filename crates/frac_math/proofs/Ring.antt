@@ -1,6 +1,7 @@
 -- Equations that hold in every commutative ring, by computation. `ring R env e f refl` proves that e and f have one
 -- value where their variables are the members of `env`: both are multiplied out into one sorted sum.
-use Rattle.std.proofs.Common.{◌≡◌, ℕ, zero, suc, List, [], ◌∷◌, Bool, true, false, eqb, leb, ℤ, pos, negsuc, ◌+ℤ◌, ◌*ℤ◌, refl, sym, ◌∙◌, ap, eqb-true}
+use Rattle.std.proofs.Common.{◌≡◌, ℕ, zero, suc, List, [], ◌∷◌, Bool, true, false, eqb, leb, ℤ, pos, negsuc, ◌+ℤ◌, ◌*ℤ◌, refl, sym, ◌∙◌, ap}
+use Rattle.std.proofs.Common.{eqb-true}
 
 pub record Ring : Type 1 where
   pub carrier : Type 0

@@ -1,5 +1,6 @@
 -- Exact fractions. Each is in lowest terms over a denominator that is not 0, so `≡` is equality of the values.
-use Rattle.std.specs.Prelude.{ℕ, zero, suc, ◌*◌, ◌/◌, Bool, T, if◌then◌else◌, ◌&&◌, nat_eq, ℤ, pos, negsuc, ◌+ℤ◌, ◌*ℤ◌, ◌≤ℤ◌, ◌<ℤ◌, neg_ℤ, int_le, int_div, unsigned_abs}
+use Rattle.std.specs.Prelude.{ℕ, zero, suc, ◌*◌, ◌/◌, Bool, T, if◌then◌else◌, ◌&&◌, nat_eq, ℤ, pos, negsuc, ◌+ℤ◌, ◌*ℤ◌, ◌≤ℤ◌, ◌<ℤ◌, neg_ℤ}
+use Rattle.std.specs.Prelude.{int_le, int_div, unsigned_abs}
 use Rattle.std.specs.Int.{int_div_euclid}
 use Rattle.std.specs.Ordering.{int_eq, int_cmp}
 use Rattle.std.specs.declared.cmp.Ordering.{Ordering}

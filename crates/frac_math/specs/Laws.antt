@@ -3,7 +3,8 @@ use Rattle.std.specs.Prelude.{◌≡◌, ℕ, ◌%◌, ◌^◌, ◌<◌, ℤ, �
 use Rattle.std.specs.Option.{SomeIff}
 use Rattle.std.specs.Ordering.{MatchOrdering}
 use Rattle.frac_math.specs.Fraction.{ℚ, whole, nat, ratio, floor, order, equal_ℚ, ◌+ℚ◌, ◌*ℚ◌, ◌/ℚ◌, ◌≤ℚ◌, ◌<ℚ◌}
-use Rattle.frac_math.specs.Checked.{RatioFits, SumFits, ProductFits, QuotientFits, checked_ratio, checked_sum, checked_product, checked_quotient}
+use Rattle.frac_math.specs.Checked.{RatioFits, SumFits, ProductFits, QuotientFits, checked_ratio, checked_sum, checked_product}
+use Rattle.frac_math.specs.Checked.{checked_quotient}
 use Rattle.frac_math.specs.Dither.{dither_at}
 
 -- each checked call has the exact answer where its numbers fit, and no answer elsewhere

@@ -1,11 +1,13 @@
 -- What the definition of a fraction needs proved: a fraction divided by the greatest common divisor is in lowest terms,
 -- and two numbers in lowest terms come back from the fraction that they stand for.
-use Rattle.std.specs.Prelude.{◌≡◌, ℕ, zero, suc, ◌*◌, ◌/◌, ◌%◌, ◌<◌, Bool, true, T, ◌&&◌, nat_lt, nat_eq, ℤ, pos, negsuc, neg_ℤ, int_div, unsigned_abs, refl}
+use Rattle.std.specs.Prelude.{◌≡◌, ℕ, zero, suc, ◌*◌, ◌/◌, ◌%◌, ◌<◌, Bool, true, T, ◌&&◌, nat_lt, nat_eq, ℤ, pos, negsuc, neg_ℤ, int_div}
+use Rattle.std.specs.Prelude.{unsigned_abs, refl}
 use Rattle.std.specs.Int.{IsGcd}
 use Rattle.std.proofs.Common.{sym, ◌∙◌, ap, subst, lt-ltb, eq-eqb}
 use Rattle.std.proofs.Math.Nat.{mod-lt, lt-suc_self, lt_of_lt_of_le, le_of_suc-le-suc, not-suc-le-zero, one-mul, zero-lt-suc, div-one}
 use Rattle.std.proofs.lemmas.Nat.Gcd.{IsGcd-from_zero, IsGcd-from_mod}
-use Rattle.std.proofs.Math.Nat.{div-mul_cancel, pos_of_dvd_of_pos, dvd_of_mul-dvd-mul_right, mul-dvd-mul_right, eq-one_of_dvd-one, dvd-mul_right}
+use Rattle.std.proofs.Math.Nat.{div-mul_cancel, pos_of_dvd_of_pos, dvd_of_mul-dvd-mul_right, mul-dvd-mul_right, eq-one_of_dvd-one}
+use Rattle.std.proofs.Math.Nat.{dvd-mul_right}
 use Prim.Native.Nat.{◌∣◌}
 use Rattle.frac_math.specs.Gcd.{gcd_within, gcd, is_lowest}
 

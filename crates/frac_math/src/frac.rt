@@ -2,7 +2,9 @@ ghost use Rattle.std.specs.Prelude.{◌≡◌, ◌≢◌, pos, unsigned_abs, ◌
 ghost use Rattle.std.specs.Option.{SomeIff};
 ghost use Rattle.std.specs.Int.{w128};
 ghost use Rattle.frac_math.specs.Fraction.{ℚ, over, ratio, ◌+ℚ◌, ◌*ℚ◌, ◌/ℚ◌, whole, floor, order};
-ghost use Rattle.frac_math.specs.Checked.{SumFits, ProductFits, QuotientFits, RatioFits, checked_sum, checked_product, checked_quotient, checked_ratio};
+ghost use Rattle.frac_math.specs.Checked.{SumFits, ProductFits, QuotientFits, RatioFits};
+ghost use Rattle.frac_math.specs.Checked.{checked_sum, checked_product, checked_quotient};
+ghost use Rattle.frac_math.specs.Checked.{checked_ratio};
 ghost use Rattle.frac_math.specs.Reduced.{IsReduced, over-numerator, over-denominator};
 ghost use Rattle.frac_math.specs.Signed.{with_sign};
 

@@ -1,5 +1,7 @@
 //! Laws of fractions and of the ordered dither: each is the contract of a function without a body.
-ghost use Rattle.frac_math.specs.Laws.{IsCheckedExactly, IsComparedExactly, FloorIsGreatest, DitherIsInside, DitherKeepsWhole, DitherRepeats, DitherIsDistinct};
+ghost use Rattle.frac_math.specs.Laws.{IsCheckedExactly, IsComparedExactly, FloorIsGreatest};
+ghost use Rattle.frac_math.specs.Laws.{DitherIsInside, DitherKeepsWhole, DitherRepeats};
+ghost use Rattle.frac_math.specs.Laws.{DitherIsDistinct};
 
 /// Each checked call has the exact answer where its numbers fit, and no answer elsewhere.
 pub fn checked_exactly()

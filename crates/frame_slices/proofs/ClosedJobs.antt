@@ -12,7 +12,8 @@ use Rattle.row_plan.specs.Jobs.{job_number, job_origin, BeginsWith, IsConvertedJ
 use Rattle.row_plan.specs.declared.job.SliceJob.{SliceJob}
 use Rattle.row_plan.proofs.JobOrigins.{HasFourEntries, same_slice}
 use Rattle.frame_slices.specs.declared.frame_slice.FrameSlice.{FrameSlice}
-use Rattle.frame_slices.specs.FrameSlices.{place_of, input_of, IsFor, IsPlace, target_of, origin_for, place_of_job, input_of_job, output_of_job}
+use Rattle.frame_slices.specs.FrameSlices.{place_of, input_of, IsFor, IsPlace, target_of, origin_for, place_of_job, input_of_job}
+use Rattle.frame_slices.specs.FrameSlices.{output_of_job}
 
 -- the origins of slices begin with the pair that they are for
 pub all_begin : (pair : Pair) (slices : List FrameSlice) → All (BeginsWith pair) (map (origin_for pair) slices)

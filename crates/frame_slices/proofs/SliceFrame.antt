@@ -1,5 +1,6 @@
 -- Slices put together are a frame whose slices they are, and their target rows make its target frame.
-use Rattle.std.proofs.Common.{◌≡◌, false, ℕ, zero, suc, ◌+◌, ◌-◌, ◌*◌, ◌<◌, ◌≤◌, List, [], ◌∷◌, ◌++◌, length, map, get_or, take, drop, length-append, refl, sym, ◌∙◌, ap, ap₂, subst, arith, append-nil, if◌then◌else◌}
+use Rattle.std.proofs.Common.{◌≡◌, false, ℕ, zero, suc, ◌+◌, ◌-◌, ◌*◌, ◌<◌, ◌≤◌, List, [], ◌∷◌, ◌++◌, length, map, get_or, take, drop}
+use Rattle.std.proofs.Common.{length-append, refl, sym, ◌∙◌, ap, ap₂, subst, arith, append-nil, if◌then◌else◌}
 use Rattle.std.specs.Prelude.{sum}
 use Rattle.std.proofs.Math.Seq.{take-add}
 use Rattle.std.proofs.lemmas.List.{nil_from_length, length-map, append_assoc, drop-drop, drop_at, take_at, length-drop, take-append-drop}
@@ -8,13 +9,16 @@ use Rattle.pix_desc.specs.Frame.{row_length, plane_length, plane_start, row_star
 use Rattle.pix_meaning.specs.declared.pair.Pair.{Pair}
 use Rattle.pix_meaning.specs.Pairs.{IsValidPair}
 use Rattle.pix_meaning.specs.Target.{target_rows, target_frame}
-use Rattle.row_plan.specs.Slices.{RowSlice, plane_rows, planes_before, behind_planes, slice_of, slices_of, joined, joined_plane, joined_planes, behind_first, targets_of}
+use Rattle.row_plan.specs.Slices.{RowSlice, plane_rows, planes_before, behind_planes, slice_of, slices_of, joined, joined_plane}
+use Rattle.row_plan.specs.Slices.{joined_planes, behind_first, targets_of}
 use Rattle.row_plan.proofs.SliceTargets.{targets_make_frame}
 use Rattle.frame_slices.specs.declared.frame_slice.Place.{Place}
 use Rattle.frame_slices.specs.declared.frame_slice.FrameSlice.{FrameSlice}
-use Rattle.frame_slices.specs.FrameSlices.{place_of, rows_of, input_of, output_of, output_bytes, target_of, places_from, plane_of, plane_in, planes_in, behind_of, behind_in, source_in, target_in, target_plane_in, target_planes_in}
+use Rattle.frame_slices.specs.FrameSlices.{place_of, rows_of, input_of, output_of, output_bytes, target_of, places_from, plane_of, plane_in}
+use Rattle.frame_slices.specs.FrameSlices.{planes_in, behind_of, behind_in, source_in, target_in, target_plane_in, target_planes_in}
 use Rattle.frame_slices.proofs.PlaneParts.{plane_cut}
-use Rattle.frame_slices.proofs.SlicePlanes.{first_place, other_places, input_length, length-plane_of, length-planes_in, planes_from, planes_around, joined_is}
+use Rattle.frame_slices.proofs.SlicePlanes.{first_place, other_places, input_length, length-plane_of, length-planes_in, planes_from}
+use Rattle.frame_slices.proofs.SlicePlanes.{planes_around, joined_is}
 
 -- ---- a slice is its planes and what stands behind them
 

@@ -1,5 +1,6 @@
 -- The planes of slices that lie one behind the other: their lengths, and that they are those of the slices put together.
-use Rattle.std.proofs.Common.{◌≡◌, ◌≢◌, true, ap₂, ℕ, zero, suc, ◌+◌, ◌-◌, ◌*◌, ◌<◌, ◌≤◌, add-zero, add-suc, List, [], ◌∷◌, ◌++◌, length, map, get_or, drop, length-append, refl, sym, ◌∙◌, ap, subst, arith, append-nil}
+use Rattle.std.proofs.Common.{◌≡◌, ◌≢◌, true, ap₂, ℕ, zero, suc, ◌+◌, ◌-◌, ◌*◌, ◌<◌, ◌≤◌, add-zero, add-suc, List, [], ◌∷◌, ◌++◌, length}
+use Rattle.std.proofs.Common.{map, get_or, drop, length-append, refl, sym, ◌∙◌, ap, subst, arith, append-nil}
 use Rattle.std.specs.Prelude.{sum, All}
 use Rattle.std.specs.List.{concat}
 use Rattle.std.proofs.lemmas.List.{append_assoc, length-map}
@@ -11,7 +12,8 @@ use Rattle.row_plan.proofs.SlicePlanes.{length-plane_rows, planes_in_frame}
 use Rattle.pix_meaning.specs.declared.pair.Pair.{Pair}
 use Rattle.frame_slices.specs.declared.frame_slice.Place.{Place}
 use Rattle.frame_slices.specs.declared.frame_slice.FrameSlice.{FrameSlice}
-use Rattle.frame_slices.specs.FrameSlices.{place_of, rows_of, input_of, places_from, plane_of, plane_in, planes_in, behind_of, behind_in, target_plane_in, target_planes_in, HaveOnePalette, IsFor}
+use Rattle.frame_slices.specs.FrameSlices.{place_of, rows_of, input_of, places_from, plane_of, plane_in, planes_in, behind_of, behind_in}
+use Rattle.frame_slices.specs.FrameSlices.{target_plane_in, target_planes_in, HaveOnePalette, IsFor}
 
 -- the place of the first, and the places of the others
 pub first_place : (source target : Desc) (width first : ℕ) (slice : FrameSlice) (slices : List FrameSlice)

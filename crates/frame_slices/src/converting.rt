@@ -1,6 +1,7 @@
 // The conversion of a frame's slices on a board.
 ghost use Rattle.std.specs.Prelude.{◌≡◌, ◌<◌, ◌≤◌, All, IfOk, map, vec_len};
-ghost use Rattle.frame_slices.specs.FrameSlices.{place_of, input_of, output_bytes, IsFor, target_of};
+ghost use Rattle.frame_slices.specs.FrameSlices.{place_of, input_of, output_bytes, IsFor};
+ghost use Rattle.frame_slices.specs.FrameSlices.{target_of};
 
 use crate::frame_slice::FrameSlice;
 use crate::gate::Gate;

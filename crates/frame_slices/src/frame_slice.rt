@@ -1,5 +1,6 @@
 // Some rows of a frame, held as raw frames of their own.
-ghost use Rattle.std.specs.Prelude.{◌≡◌, ◌≢◌, ◌+◌, ◌<◌, ◌≤◌, ◌^◌, ℕ, false, true, vec_len, length, replicate, OnOk, OnErr, IfOk};
+ghost use Rattle.std.specs.Prelude.{◌≡◌, ◌≢◌, ◌+◌, ◌<◌, ◌≤◌, ◌^◌, ℕ, false, true, vec_len, length};
+ghost use Rattle.std.specs.Prelude.{replicate, OnOk, OnErr, IfOk};
 ghost use Rattle.std.proofs.Props.{props};
 ghost use Rattle.pix_desc.specs.Layouts.{IsValid};
 ghost use Rattle.pix_desc.specs.Frame.{frame_length, plane_start, plane_length};
@@ -67,7 +68,9 @@ impl FrameSlice {
     ghost use Rattle.pix_io.specs.Faults.{HasCause};
     ghost use Rattle.pix_io.specs.Streams.{Writes, WritesPart};
     ghost use Rattle.frame_slices.specs.FrameSlices.{plane_of, target_plane_of, behind_of, Reads};
-    ghost use Rattle.frame_slices.specs.FrameSlices.{input_of, output_bytes, IsFor, IsPlace, origin_for, place_of_job, input_of_job, output_of_job};
+    ghost use Rattle.frame_slices.specs.FrameSlices.{input_of, output_bytes, IsFor, IsPlace};
+    ghost use Rattle.frame_slices.specs.FrameSlices.{origin_for, place_of_job, input_of_job};
+    ghost use Rattle.frame_slices.specs.FrameSlices.{output_of_job};
 
     /// The slice at a place, with all bytes 0.
     pub fn new(alloc: Global, place: &Place) -> Result<Self, OutOfMemory>
@@ -140,7 +143,8 @@ impl FrameSlice {
     pub(crate) fn write_plane<Out: Sink>(&self, plane: u8, output: &mut Out) -> Result<(), Failed>
         requires { plane < 4 }
         ensures written { OnOk result
-            (Writes (Out.shown output.old) (Out.shown output.new) (target_plane_of plane self.now)) }
+            (Writes (Out.shown output.old) (Out.shown output.new)
+            (target_plane_of plane self.now)) }
         ensures part_written { OnErr result
             (WritesPart (Out.shown output.old) (Out.shown output.new)
             (target_plane_of plane self.now)) }

@@ -3,7 +3,9 @@ ghost use Rattle.std.specs.Prelude.{◌≡◌, ◌≤◌, All, IfOk, map, vec_le
 ghost use Rattle.std.specs.Vec.{vec_capacity};
 ghost use Rattle.slice_claim.specs.Board.{AreNumbered};
 ghost use Rattle.row_plan.specs.Jobs.{job_number, job_origin};
-ghost use Rattle.frame_slices.specs.FrameSlices.{place_of, input_of, output_bytes, IsFor, IsPlace, origin_for, place_of_job, input_of_job, output_of_job};
+ghost use Rattle.frame_slices.specs.FrameSlices.{place_of, input_of, output_bytes, IsFor, IsPlace};
+ghost use Rattle.frame_slices.specs.FrameSlices.{origin_for, place_of_job, input_of_job};
+ghost use Rattle.frame_slices.specs.FrameSlices.{output_of_job};
 
 use crate::frame_slice::FrameSlice;
 use frac_math::OutOfMemory;

@@ -1,5 +1,6 @@
 // A frame held as slices of its rows.
-ghost use Rattle.std.specs.Prelude.{◌≡◌, ◌+◌, ◌<◌, ◌≤◌, ◌^◌, false, sum, map, vec_len, IfOk, OnOk, OnErr};
+ghost use Rattle.std.specs.Prelude.{◌≡◌, ◌+◌, ◌<◌, ◌≤◌, ◌^◌, false, sum, map, vec_len, IfOk, OnOk};
+ghost use Rattle.std.specs.Prelude.{OnErr};
 ghost use Rattle.std.specs.Coded.{Coded-set};
 ghost use Rattle.std.proofs.Props.{props};
 ghost use Rattle.pix_desc.specs.Layouts.{IsValid};
@@ -33,7 +34,8 @@ pub struct SlicedFrame {
     pub ghost tall: { 0 < whole.rows },
     pub ghost some: { 0 < vec_len slices },
     pub ghost few: { vec_len slices ≤ 16384 },
-    pub ghost places: { map place_of slices.items ≡ places_from whole.source whole.target whole.width 0 (map rows_of slices.items) },
+    pub ghost places: { map place_of slices.items
+        ≡ places_from whole.source whole.target whole.width 0 (map rows_of slices.items) },
     pub ghost covers: { sum (map rows_of slices.items) ≡ whole.rows },
     pub ghost behind: { HaveOnePalette slices.items },
 }
@@ -95,7 +97,8 @@ impl SlicedFrame {
             (TakesPart (In.shown input.old) (In.shown input.new)
             (source_in self.new.whole self.new.slices.items)) }
         ensures cause { HasCause (In.shown input.old) (In.shown input.new) result }
-        ensures slices { slices_of self.new.whole.source self.new.whole.width self.new.whole.rows (source_in self.new.whole self.new.slices.items) 0 (map rows_of self.new.slices.items)
+        ensures slices { slices_of self.new.whole.source self.new.whole.width self.new.whole.rows
+            (source_in self.new.whole self.new.slices.items) 0 (map rows_of self.new.slices.items)
             ≡ map input_of self.new.slices.items }
         ensures size { length (source_in self.new.whole self.new.slices.items)
             ≡ frame_length self.new.whole.source self.new.whole.width self.new.whole.rows }

@@ -1,11 +1,16 @@
 // All slices of a frame, one after the other.
-ghost use Rattle.std.specs.Prelude.{◌≡◌, ◌≢◌, ◌+◌, ◌<◌, ◌≤◌, ◌^◌, ◌++◌, ℕ, List, true, All, length, map, sum, IfOk, OnOk, OnErr};
+ghost use Rattle.std.specs.Prelude.{◌≡◌, ◌≢◌, ◌+◌, ◌<◌, ◌≤◌, ◌^◌, ◌++◌, ℕ, List, true, All, length};
+ghost use Rattle.std.specs.Prelude.{map, sum, IfOk, OnOk, OnErr};
 ghost use Rattle.pix_desc.specs.Layouts.{IsValid};
 ghost use Rattle.pix_desc.specs.Frame.{frame_length};
 ghost use Rattle.pix_io.specs.Faults.{HasCause};
 ghost use Rattle.pix_io.specs.Streams.{Writes, WritesPart};
 ghost use Rattle.row_plan.specs.Slices.{slices_of};
-ghost use Rattle.frame_slices.specs.FrameSlices.{place_of, rows_of, places_from, input_of, plane_of, plane_in, planes_in, target_plane_in, target_planes_in, behind_of, behind_in, got_behind, count_in, source_in, HaveOnePalette, Reads};
+ghost use Rattle.frame_slices.specs.FrameSlices.{place_of, rows_of, places_from, input_of};
+ghost use Rattle.frame_slices.specs.FrameSlices.{plane_of, plane_in, planes_in, target_plane_in};
+ghost use Rattle.frame_slices.specs.FrameSlices.{target_planes_in, behind_of, behind_in};
+ghost use Rattle.frame_slices.specs.FrameSlices.{got_behind, count_in, source_in, HaveOnePalette};
+ghost use Rattle.frame_slices.specs.FrameSlices.{Reads};
 
 use crate::frame_slice::{FrameSlice, Place, plane_at};
 use pix_io::{Failed, Got, Sink, Source, read_whole};

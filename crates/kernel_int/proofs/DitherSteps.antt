@@ -1,5 +1,6 @@
 -- The dither of the pixels of a row, as whole numbers of parts, and what is added to the numbers of a block.
-use Rattle.std.proofs.Common.{◌≡◌, ℕ, zero, suc, ◌+◌, ◌*◌, ◌/◌, ◌%◌, ◌^◌, ◌-◌, ◌<◌, ◌≤◌, List, ℤ, pos, negsuc, ◌+ℤ◌, ◌*ℤ◌, slice_index, slice_index_or, refl, sym, ap, ◌∙◌, arith, subst}
+use Rattle.std.proofs.Common.{◌≡◌, ℕ, zero, suc, ◌+◌, ◌*◌, ◌/◌, ◌%◌, ◌^◌, ◌-◌, ◌<◌, ◌≤◌, List, ℤ, pos, negsuc, ◌+ℤ◌, ◌*ℤ◌, slice_index}
+use Rattle.std.proofs.Common.{slice_index_or, refl, sym, ap, ◌∙◌, arith, subst}
 use Rattle.std.specs.Prelude.{◌≤ℤ◌, unsigned_abs, FitsSigned}
 use Rattle.std.proofs.Math.IntN.{*ℤ_comm}
 use Rattle.frac_math.proofs.Integers.{mul-one_ℤ}
@@ -9,7 +10,8 @@ use Rattle.std.proofs.lemmas.Int.{ints}
 use Rattle.frac_math.specs.Dither.{digit, dither_at, index}
 use Rattle.frac_math.specs.Fraction.{◌+ℚ◌}
 use Rattle.frac_math.specs.Standing.{Stands}
-use Rattle.frac_math.proofs.DitherLaws.{dither_repeats, dither_stands, index_number, index_number-zero, index_number-add-one, index_number_below, index_most}
+use Rattle.frac_math.proofs.DitherLaws.{dither_repeats, dither_stands, index_number, index_number-zero, index_number-add-one}
+use Rattle.frac_math.proofs.DitherLaws.{index_number_below, index_most}
 use Rattle.kernel_int.specs.declared.form.Extent.{Extent}
 use Rattle.kernel_int.specs.ValueSteps.{AreIn, IsDithered, MakesValue, NumbersDither}
 use Rattle.kernel_int.proofs.ValueFractions.{dithered_stands}

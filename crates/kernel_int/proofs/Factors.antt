@@ -1,5 +1,6 @@
 -- The factor of a coefficient over a denominator.
-use Rattle.std.proofs.Common.{◌≡◌, ℕ, zero, suc, ◌*◌, ◌<◌, ◌⊎◌, inl, inr, ⊎_elim, List, [], ◌∷◌, ℤ, pos, negsuc, ◌*ℤ◌, sym, ap, ◌∙◌, arith, FitsSigned, refl}
+use Rattle.std.proofs.Common.{◌≡◌, ℕ, zero, suc, ◌*◌, ◌<◌, ◌⊎◌, inl, inr, ⊎_elim, List, [], ◌∷◌, ℤ, pos, negsuc, ◌*ℤ◌, sym, ap, ◌∙◌, arith}
+use Rattle.std.proofs.Common.{FitsSigned, refl}
 use Rattle.std.specs.Prelude.{◌<ℤ◌, unsigned_abs}
 use Rattle.std.specs.Int.{Width}
 use Rattle.std.proofs.lemmas.Int.{ints}
@@ -18,18 +19,22 @@ pub positive_whole : (d : ℤ) → pos 0 <ℤ d → d ≡ pos (unsigned_abs d)
 positive_whole (pos n) h = refl
 positive_whole (negsuc n) h = absurd (omega (arith, ints, h))
 
-pub term_made : (before : Form) (c : ℚ) (k d : ℤ) (j : ℕ) → j < before.count → pos 0 <ℤ d → pos 0 <ℤ ((extent_at before j).denominator *ℤ pos c.denominator)
+pub term_made : (before : Form) (c : ℚ) (k d : ℤ) (j : ℕ) → j < before.count → pos 0 <ℤ d
+    → pos 0 <ℤ ((extent_at before j).denominator *ℤ pos c.denominator)
     → k *ℤ ((extent_at before j).denominator *ℤ pos c.denominator) ≡ c.numerator *ℤ d → IsTerm before c k (unsigned_abs d) j
 term_made before c k d j some positive below same =
-    let left : (extent_at before j).denominator ≡ pos (denominator before j) = positive_left (extent_at before j).denominator c.denominator below in
+    let left : (extent_at before j).denominator ≡ pos (denominator before j) =
+    positive_left (extent_at before j).denominator c.denominator below in
     inl (some, ap (λ t. k *ℤ (t *ℤ pos c.denominator)) (sym left) ∙ same ∙ ap (λ t. c.numerator *ℤ t) (positive_whole d positive))
 
 -- ---- a row
-has_numbers : (before : Form) (row : List ℚ) (factors : List ℤ) (d : ℕ) → ((j : ℕ) → j < 4 → IsTerm before (fraction_in row j) (factor factors j) d j)
+has_numbers : (before : Form) (row : List ℚ) (factors : List ℤ) (d : ℕ)
+    → ((j : ℕ) → j < 4 → IsTerm before (fraction_in row j) (factor factors j) d j)
     → (numbers : ℕ → ℤ) → IsInside before numbers → HasNumbers before factors numbers
 has_numbers before row factors d terms numbers inside j small =
     ⊎_elim
-    (λ (some : (j < before.count) × (factor factors j *ℤ pos (denominator before j * (fraction_in row j).denominator) ≡ (fraction_in row j).numerator *ℤ pos d)). inr (inside j some.0))
+    (λ (some : (j < before.count) × (factor factors j *ℤ pos (denominator before j * (fraction_in row j).denominator)
+    ≡ (fraction_in row j).numerator *ℤ pos d)). inr (inside j some.0))
     (λ (none : (factor factors j ≡ pos 0) × (((fraction_in row j).numerator ≡ pos 0) ⊎ IsZero before j)). inl none.0)
     (terms j small)
 
@@ -37,7 +42,8 @@ pub row_made : (w : Width) (before : Form) (row : List ℚ) (k0 k1 k2 k3 k4 d le
     → IsTerm before (fraction_in row 0) k0 (unsigned_abs d) 0 → IsTerm before (fraction_in row 1) k1 (unsigned_abs d) 1
     → IsTerm before (fraction_in row 2) k2 (unsigned_abs d) 2 → IsTerm before (fraction_in row 3) k3 (unsigned_abs d) 3
     → k4 *ℤ pos (fraction_in row 4).denominator ≡ (fraction_in row 4).numerator *ℤ d
-    → ((j : ℕ) → j < 5 → FitsSigned w (factor (k0 ∷ k1 ∷ k2 ∷ k3 ∷ k4 ∷ []) j)) → IsRange w before (k0 ∷ k1 ∷ k2 ∷ k3 ∷ k4 ∷ []) least greatest
+    → ((j : ℕ) → j < 5 → FitsSigned w (factor (k0 ∷ k1 ∷ k2 ∷ k3 ∷ k4 ∷ []) j))
+    → IsRange w before (k0 ∷ k1 ∷ k2 ∷ k3 ∷ k4 ∷ []) least greatest
     → IsRow w before row (k0 ∷ k1 ∷ k2 ∷ k3 ∷ k4 ∷ []) (record { denominator = d; least = least; greatest = greatest })
 row_made w before row k0 k1 k2 k3 k4 d least greatest positive t0 t1 t2 t3 constant entries range =
     let factors : List ℤ = k0 ∷ k1 ∷ k2 ∷ k3 ∷ k4 ∷ [] in

@@ -1,5 +1,6 @@
 -- Products of the numbers of an interval, and their sums.
-use Rattle.std.proofs.Common.{◌≡◌, ℕ, zero, suc, ◌<◌, ◌≤◌, ◌⊎◌, ⊎_elim, ℤ, pos, negsuc, ◌*ℤ◌, ◌+ℤ◌, sym, ap, ◌∙◌, arith, subst, FitsSigned, List, [], ◌∷◌, refl, to_z, of_z, true, false, T}
+use Rattle.std.proofs.Common.{◌≡◌, ℕ, zero, suc, ◌<◌, ◌≤◌, ◌⊎◌, ⊎_elim, ℤ, pos, negsuc, ◌*ℤ◌, ◌+ℤ◌, sym, ap, ◌∙◌, arith, subst, FitsSigned}
+use Rattle.std.proofs.Common.{List, [], ◌∷◌, refl, to_z, of_z, true, false, T}
 use Rattle.std.specs.Prelude.{◌≤ℤ◌, ◌<ℤ◌}
 use lib.Signed.{le_z}
 use Rattle.std.specs.Int.{Width, w128}
@@ -15,7 +16,8 @@ use Rattle.kernel_int.specs.declared.form.Tier.TheVariants.{Narrow, Wide, Huge}
 use Rattle.kernel_int.specs.Forms.{factor, extent_at, width_of, HasNumbers, IsRange}
 
 pub product_grows : (k a b : ℤ) → pos 0 ≤ℤ k → a ≤ℤ b → (k *ℤ a) ≤ℤ (k *ℤ b)
-product_grows (pos c) a b sign h = subst (λ t. t ≤ℤ (pos c *ℤ b)) (*ℤ_comm a (pos c)) (subst (λ t. (a *ℤ pos c) ≤ℤ t) (*ℤ_comm b (pos c)) (mono_ℤ a b c h))
+product_grows (pos c) a b sign h = subst (λ t. t ≤ℤ (pos c *ℤ b)) (*ℤ_comm a (pos c))
+    (subst (λ t. (a *ℤ pos c) ≤ℤ t) (*ℤ_comm b (pos c)) (mono_ℤ a b c h))
 product_grows (negsuc c) a b sign h = absurd (omega (arith, ints))
 
 neg_product : (c : ℕ) (a : ℤ) → negsuc c *ℤ a +ℤ pos (suc c) *ℤ a ≡ pos 0
@@ -32,14 +34,20 @@ product_falls (negsuc c) a b sign h =
 pub between_fits : (w : Width) (a b z : ℤ) → FitsSigned w a → FitsSigned w b → a ≤ℤ z → z ≤ℤ b → FitsSigned w z
 between_fits w a b z p q low high = omega (arith, ints, p, q)
 
-pub added_known : (w : Width) (low high p q lower higher : ℤ) → FitsSigned w128 low → FitsSigned w128 high → FitsSigned w128 p → FitsSigned w128 q
-    → FitsSigned w128 (to_z w128 (of_z w128 low) +ℤ to_z w128 (of_z w128 p)) × (lower ≡ to_z w128 (of_z w128 low) +ℤ to_z w128 (of_z w128 p))
-    → FitsSigned w128 (to_z w128 (of_z w128 high) +ℤ to_z w128 (of_z w128 q)) × (higher ≡ to_z w128 (of_z w128 high) +ℤ to_z w128 (of_z w128 q))
-    → FitsSigned w (to_z w128 (of_z w128 p)) → FitsSigned w (to_z w128 (of_z w128 q)) → FitsSigned w (to_z w128 (of_z w128 lower)) → FitsSigned w (to_z w128 (of_z w128 higher))
+pub added_known : (w : Width) (low high p q lower higher : ℤ) → FitsSigned w128 low → FitsSigned w128 high → FitsSigned w128 p
+    → FitsSigned w128 q
+    → FitsSigned w128 (to_z w128 (of_z w128 low) +ℤ to_z w128 (of_z w128 p))
+    × (lower ≡ to_z w128 (of_z w128 low) +ℤ to_z w128 (of_z w128 p))
+    → FitsSigned w128 (to_z w128 (of_z w128 high) +ℤ to_z w128 (of_z w128 q))
+    × (higher ≡ to_z w128 (of_z w128 high) +ℤ to_z w128 (of_z w128 q))
+    → FitsSigned w (to_z w128 (of_z w128 p)) → FitsSigned w (to_z w128 (of_z w128 q)) → FitsSigned w (to_z w128 (of_z w128 lower))
+    → FitsSigned w (to_z w128 (of_z w128 higher))
     → IsAdded w low high p q (to_z w128 (of_z w128 lower)) (to_z w128 (of_z w128 higher))
 added_known w low high p q lower higher lf hf pf qf ls hs p_in q_in low_in high_in =
-    let l_sum : to_z w128 (of_z w128 low) +ℤ to_z w128 (of_z w128 p) ≡ low +ℤ p = ap (λ t. t +ℤ to_z w128 (of_z w128 p)) (to_z-of_z w128 low lf) ∙ ap (λ t. low +ℤ t) (to_z-of_z w128 p pf) in
-    let h_sum : to_z w128 (of_z w128 high) +ℤ to_z w128 (of_z w128 q) ≡ high +ℤ q = ap (λ t. t +ℤ to_z w128 (of_z w128 q)) (to_z-of_z w128 high hf) ∙ ap (λ t. high +ℤ t) (to_z-of_z w128 q qf) in
+    let l_sum : to_z w128 (of_z w128 low) +ℤ to_z w128 (of_z w128 p) ≡ low +ℤ p =
+    ap (λ t. t +ℤ to_z w128 (of_z w128 p)) (to_z-of_z w128 low lf) ∙ ap (λ t. low +ℤ t) (to_z-of_z w128 p pf) in
+    let h_sum : to_z w128 (of_z w128 high) +ℤ to_z w128 (of_z w128 q) ≡ high +ℤ q =
+    ap (λ t. t +ℤ to_z w128 (of_z w128 q)) (to_z-of_z w128 high hf) ∙ ap (λ t. high +ℤ t) (to_z-of_z w128 q qf) in
     let lower_fits : FitsSigned w128 lower = subst (FitsSigned w128) (sym ls.1) ls.0 in
     let higher_fits : FitsSigned w128 higher = subst (FitsSigned w128) (sym hs.1) hs.0 in
     record {
@@ -76,7 +84,8 @@ ranges_down k least greatest sign n inside =
     inside
 
 -- ---- the next sum
-pub next_sum : (w : Width) (low high k least greatest p q lower higher : ℤ) → Ranges k least greatest p q → IsAdded w low high p q lower higher → IsNextSum w low high k least greatest lower higher
+pub next_sum : (w : Width) (low high k least greatest p q lower higher : ℤ) → Ranges k least greatest p q
+    → IsAdded w low high p q lower higher → IsNextSum w low high k least greatest lower higher
 unfolding with_product
 next_sum w low high k least greatest p q lower higher range added = record {
   product = λ n inside. let r = range n inside in between_fits w p q (k *ℤ n) added.first added.second r.0 r.1;
@@ -87,7 +96,8 @@ next_sum w low high k least greatest p q lower higher range added = record {
       (between_fits w lower higher (s +ℤ k *ℤ n) added.low_fits added.high_fits from to, from, to);
 }
 
-pub next_none : (w : Width) (low high k least greatest : ℤ) → k ≡ pos 0 → FitsSigned w low → FitsSigned w high → IsNextSum w low high k least greatest low high
+pub next_none : (w : Width) (low high k least greatest : ℤ) → k ≡ pos 0 → FitsSigned w low → FitsSigned w high
+    → IsNextSum w low high k least greatest low high
 unfolding with_product
 next_none w low high k least greatest z low_in high_in = record {
   product = λ n inside. subst (FitsSigned w) (sym (none k n z)) (between_zero w low low_in);
@@ -99,7 +109,8 @@ next_none w low high k least greatest z low_in high_in = record {
 
 -- ---- the same over numbers of 128 bits
 abbrev pub Made : Width → ℤ → ℤ → ℤ → ℤ → ℤ → ℤ → ℤ → Type 0
-Made w low high k least greatest lower higher = IsNextSum w low high k least greatest lower higher × FitsSigned w lower × FitsSigned w higher
+Made w low high k least greatest lower higher = IsNextSum w low high k least greatest lower higher × FitsSigned w lower
+    × FitsSigned w higher
 
 pub plain : (z : ℤ) → FitsSigned w128 z → to_z w128 (of_z w128 z) ≡ z
 plain z fits = to_z-of_z w128 z fits
@@ -109,11 +120,14 @@ pub product_known : (k a product : ℤ) → FitsSigned w128 k → FitsSigned w12
     → FitsSigned w128 (to_z w128 (of_z w128 k) *ℤ to_z w128 (of_z w128 a)) × (product ≡ to_z w128 (of_z w128 k) *ℤ to_z w128 (of_z w128 a))
     → to_z w128 (of_z w128 product) ≡ k *ℤ a
 product_known k a product kf af made =
-    let is : to_z w128 (of_z w128 k) *ℤ to_z w128 (of_z w128 a) ≡ k *ℤ a = ap (λ t. t *ℤ to_z w128 (of_z w128 a)) (plain k kf) ∙ ap (λ t. k *ℤ t) (plain a af) in
+    let is : to_z w128 (of_z w128 k) *ℤ to_z w128 (of_z w128 a) ≡ k *ℤ a = ap (λ t. t *ℤ to_z w128 (of_z w128 a)) (plain k kf)
+    ∙ ap (λ t. k *ℤ t) (plain a af) in
     plain product (subst (FitsSigned w128) (sym made.1) made.0) ∙ made.1 ∙ is
 
-pub made_from : (w : Width) (low high k least greatest p q : ℤ) (lower higher : ℤ) → Ranges k least greatest p q → IsAdded w low high p q lower higher → Made w low high k least greatest lower higher
-made_from w low high k least greatest p q lower higher range added = (next_sum w low high k least greatest p q lower higher range added, added.low_fits, added.high_fits)
+pub made_from : (w : Width) (low high k least greatest p q : ℤ) (lower higher : ℤ) → Ranges k least greatest p q
+    → IsAdded w low high p q lower higher → Made w low high k least greatest lower higher
+made_from w low high k least greatest p q lower higher range added =
+    (next_sum w low high k least greatest p q lower higher range added, added.low_fits, added.high_fits)
 
 pub is_none : (k : ℤ) → FitsSigned w128 k → of_z w128 k ≡ 0 → k ≡ pos 0
 is_none k fits h = omega (arith, ints)
@@ -136,12 +150,14 @@ pub five_cases : (P : ℕ → Type 0) (j : ℕ) → j ≤ 4 → P 0 → P 1 → 
 five_cases P zero h a b c d e = a
 five_cases P (suc j) h a b c d e = four_cases (λ t. P (suc t)) j (omega (arith, h)) b c d e
 
-row_known : (w : Width) (before : Form) (factors : List ℤ) (constant : ℤ) (l0 h0 l1 h1 l2 h2 l3 h3 : ℤ) → constant ≡ factor factors 4 → FitsSigned w constant
+row_known : (w : Width) (before : Form) (factors : List ℤ) (constant : ℤ) (l0 h0 l1 h1 l2 h2 l3 h3 : ℤ) → constant ≡ factor factors 4
+    → FitsSigned w constant
     → IsNextSum w constant constant (factor factors 0) (extent_at before 0).least (extent_at before 0).greatest l0 h0
     → IsNextSum w l0 h0 (factor factors 1) (extent_at before 1).least (extent_at before 1).greatest l1 h1
     → IsNextSum w l1 h1 (factor factors 2) (extent_at before 2).least (extent_at before 2).greatest l2 h2
     → IsNextSum w l2 h2 (factor factors 3) (extent_at before 3).least (extent_at before 3).greatest l3 h3
-    → (numbers : ℕ → ℤ) → HasNumbers before factors numbers → RowFits w factors numbers × (l3 ≤ℤ row_sum factors numbers 4) × (row_sum factors numbers 4 ≤ℤ h3)
+    → (numbers : ℕ → ℤ) → HasNumbers before factors numbers
+    → RowFits w factors numbers × (l3 ≤ℤ row_sum factors numbers 4) × (row_sum factors numbers 4 ≤ℤ h3)
 row_known w before factors constant l0 h0 l1 h1 l2 h2 l3 h3 is fits s0 s1 s2 s3 numbers has =
     let c0 : constant ≤ℤ factor factors 4 = omega (arith, ints, is) in
     let c1 : factor factors 4 ≤ℤ constant = omega (arith, ints, is) in
@@ -150,13 +166,15 @@ row_known w before factors constant l0 h0 l1 h1 l2 h2 l3 h3 is fits s0 s1 s2 s3 
     let r2 = s2.sum (row_sum factors numbers 2) (numbers 2) r1.1 r1.2 (has 2 (omega arith)) in
     let r3 = s3.sum (row_sum factors numbers 3) (numbers 3) r2.1 r2.2 (has 3 (omega arith)) in
     let products : (j : ℕ) → j < 4 → FitsSigned w (factor factors j *ℤ numbers j) =
-    λ j small. four_cases (λ t. FitsSigned w (factor factors t *ℤ numbers t)) j small (s0.product (numbers 0) (has 0 (omega arith))) (s1.product (numbers 1) (has 1 (omega arith)))
+    λ j small. four_cases (λ t. FitsSigned w (factor factors t *ℤ numbers t)) j small (s0.product (numbers 0) (has 0 (omega arith)))
+    (s1.product (numbers 1) (has 1 (omega arith)))
     (s2.product (numbers 2) (has 2 (omega arith))) (s3.product (numbers 3) (has 3 (omega arith))) in
     let sums : (j : ℕ) → j ≤ 4 → FitsSigned w (row_sum factors numbers j) =
     λ j small. five_cases (λ t. FitsSigned w (row_sum factors numbers t)) j small (subst (FitsSigned w) is fits) r0.0 r1.0 r2.0 r3.0 in
     (record { products = products; sums = sums }, r3.1, r3.2)
 
-pub row_range : (w : Width) (before : Form) (factors : List ℤ) (constant : ℤ) (l0 h0 l1 h1 l2 h2 l3 h3 : ℤ) → constant ≡ factor factors 4 → FitsSigned w constant
+pub row_range : (w : Width) (before : Form) (factors : List ℤ) (constant : ℤ) (l0 h0 l1 h1 l2 h2 l3 h3 : ℤ) → constant ≡ factor factors 4
+    → FitsSigned w constant
     → IsNextSum w constant constant (factor factors 0) (extent_at before 0).least (extent_at before 0).greatest l0 h0
     → IsNextSum w l0 h0 (factor factors 1) (extent_at before 1).least (extent_at before 1).greatest l1 h1
     → IsNextSum w l1 h1 (factor factors 2) (extent_at before 2).least (extent_at before 2).greatest l2 h2

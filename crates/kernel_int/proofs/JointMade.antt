@@ -11,7 +11,8 @@ use Rattle.op_list.specs.Apply.{row_of}
 use Rattle.op_list.proofs.Four.{get_or-four}
 use Rattle.op_range.specs.declared.width.Width.{Width}
 use Rattle.op_range.specs.FractionBounds.{factor}
-use Rattle.op_range.specs.Width.{size_in, width_of, scaled_width, limited_width, dithered_width, mapped_width, limited_size, size_over, entries_denominator, rows_denominator, row_size}
+use Rattle.op_range.specs.Width.{size_in, width_of, scaled_width, limited_width, dithered_width, mapped_width, limited_size, size_over}
+use Rattle.op_range.specs.Width.{entries_denominator, rows_denominator, row_size}
 use Rattle.op_range.proofs.Multiples.{multiple_right, entries_each, entries_positive, rows_each, rows_positive}
 use Rattle.kernel_int.specs.declared.form.Extent.{Extent}
 use Rattle.kernel_int.specs.declared.form.Form.{Form}
@@ -33,15 +34,18 @@ quotient_of a g d some is = ap (λ x. x / a) (sym is) ∙ mul-div_cancel_left g 
 
 pub multiple_of : (old : Extent) (d size : ℕ) → 0 < d → HasWidth old d size → IsMultiple d (unsigned_abs old.denominator)
 multiple_of old d size some has =
-    ap (λ x. x * unsigned_abs old.denominator) (quotient_of (unsigned_abs old.denominator) has.factor d some has.over) ∙ omega (arith, has.over)
+    ap (λ x. x * unsigned_abs old.denominator) (quotient_of (unsigned_abs old.denominator) has.factor d some has.over)
+    ∙ omega (arith, has.over)
 
 below_product : (a g m : ℕ) → 1 ≤ g → a * g ≤ m → a ≤ m
 below_product a g m some h = omega (arith, h, mul-le-mul_left a some)
 
 pub old_small : (old : Extent) (d size : ℕ) → 0 < d → HasWidth old d size → (unsigned_abs old.denominator ≤ d) × (extent_size old ≤ size)
 old_small old d size some has =
-    let g = positive_factor (unsigned_abs old.denominator) has.factor d has.over some in
-    (below_product (unsigned_abs old.denominator) has.factor d g (omega (arith, has.over)), below_product (extent_size old) has.factor size g has.most)
+    let g = positive_factor (unsigned_abs old.denominator) has.factor d has.over some in (
+      below_product (unsigned_abs old.denominator) has.factor d g (omega (arith, has.over)),
+      below_product (extent_size old) has.factor size g has.most,
+    )
 
 width_same : (extent : Extent) (d e m n : ℕ) → HasWidth extent d m → d ≡ e → m ≡ n → HasWidth extent e n
 width_same extent d e m n has is same = subst (λ (x : ℕ). HasWidth extent x n) is (subst (λ (x : ℕ). HasWidth extent d x) same has)
@@ -54,7 +58,8 @@ size_of_value : (d : ℕ) (f : ℕ → ℕ) (next : Width) (v : ℕ) → v < 4 �
 size_of_value d f next v below same = same.sizes v below ∙ get_or-four f v 0 below
 
 -- ---- Scale
-pub scale_fits : (by : ℚ) (v : ℕ) (old : Extent) (w next : Width) (e d : ℕ) → AreSame next (scaled_width by w) → IsSmall w → IsSmall next → v < 4
+pub scale_fits : (by : ℚ) (v : ℕ) (old : Extent) (w next : Width) (e d : ℕ) → AreSame next (scaled_width by w) → IsSmall w → IsSmall next
+    → v < 4
     → HasWidth old w.denominator (size_in w v) → MadeFits (Scale by) v old e d
 scale_fits by v old w next e d same small next_small below has =
     let low = old_small old w.denominator (size_in w v) small.positive has in
@@ -67,12 +72,15 @@ scale_fits by v old w next e d same small next_small below has =
       factors = omega arith;
     }
 
-pub scale_width : (by : ℚ) (v : ℕ) (old new : Extent) (w next : Width) → AreSame next (scaled_width by w) → v < 4 → HasWidth old w.denominator (size_in w v)
-    → pos 0 <ℤ new.denominator → unsigned_abs new.denominator ≡ unsigned_abs old.denominator * by.denominator → extent_size new ≤ extent_size old * unsigned_abs by.numerator
+pub scale_width : (by : ℚ) (v : ℕ) (old new : Extent) (w next : Width) → AreSame next (scaled_width by w) → v < 4
+    → HasWidth old w.denominator (size_in w v)
+    → pos 0 <ℤ new.denominator → unsigned_abs new.denominator ≡ unsigned_abs old.denominator * by.denominator
+    → extent_size new ≤ extent_size old * unsigned_abs by.numerator
     → HasWidth new next.denominator (size_in next v)
 scale_width by v old new w next same below has positive is most =
     let size = size_of_value _ (λ i. size_in w i * unsigned_abs by.numerator) next v below same in
-    width_same new _ _ _ _ (width_scaled old new w.denominator (size_in w v) by.denominator (unsigned_abs by.numerator) has positive is most) (sym same.denominator) (sym size)
+    width_same new _ _ _ _ (width_scaled old new w.denominator (size_in w v) by.denominator
+    (unsigned_abs by.numerator) has positive is most) (sym same.denominator) (sym size)
 
 -- ---- Min and Max
 more_limited : (e a d s n : ℕ) (limit : Option ℚ) → a ≤ d → s ≤ n → limited_size e a limit s ≤ limited_size e d limit n
@@ -94,7 +102,8 @@ pub record LimitFits (limits : List (Option ℚ)) (v : ℕ) (old : Extent) : Typ
   pub size : limited_size (entries_denominator limits) (unsigned_abs old.denominator) (entry limits v) (extent_size old) < 2 ^ 126
   pub factors : IsLimit (entries_denominator limits) (entry limits v)
 
-pub limit_fits : (limits : List (Option ℚ)) (v : ℕ) (old : Extent) (w next : Width) → AreSame next (limited_width limits w) → IsSmall w → IsSmall next → v < 4
+pub limit_fits : (limits : List (Option ℚ)) (v : ℕ) (old : Extent) (w next : Width) → AreSame next (limited_width limits w) → IsSmall w
+    → IsSmall next → v < 4
     → HasWidth old w.denominator (size_in w v) → LimitFits limits v old
 limit_fits limits v old w next same small next_small below has =
     let e = entries_denominator limits in
@@ -103,11 +112,18 @@ limit_fits limits v old w next same small next_small below has =
     record {
       positive = has.positive;
       denominator = omega (arith, mul-le-mul_right e low.0, same.denominator, next_small.denominator);
-      size = omega (arith, more_limited e (unsigned_abs old.denominator) w.denominator (extent_size old) (size_in w v) (entry limits v) low.0 low.1, size, next_small.sizes v below);
+      size = omega (
+        arith,
+        more_limited e (unsigned_abs old.denominator) w.denominator (extent_size old) (size_in w v)
+            (entry limits v) low.0 low.1,
+        size,
+        next_small.sizes v below,
+      );
       factors = is_limit limits v (omega (arith, mul-le-mul_right e small.positive, same.denominator, next_small.denominator));
     }
 
-pub limit_width : (limits : List (Option ℚ)) (v : ℕ) (old new : Extent) (w next : Width) → AreSame next (limited_width limits w) → v < 4 → HasWidth old w.denominator (size_in w v)
+pub limit_width : (limits : List (Option ℚ)) (v : ℕ) (old new : Extent) (w next : Width) → AreSame next (limited_width limits w) → v < 4
+    → HasWidth old w.denominator (size_in w v)
     → pos 0 <ℤ new.denominator → unsigned_abs new.denominator ≡ unsigned_abs old.denominator * entries_denominator limits
     → extent_size new ≤ limited_size (entries_denominator limits) (unsigned_abs old.denominator) (entry limits v) (extent_size old)
     → HasWidth new next.denominator (size_in next v)
@@ -116,17 +132,25 @@ limit_width limits v old new w next same below has positive is most =
     let size = size_of_value _ (λ i. limited_size e w.denominator (entry limits i) (size_in w i)) next v below same in
     width_same new _ _ _ _ (either (entry limits v) most) (sym same.denominator) (sym size)
   where
-    either : (limit : Option ℚ) → extent_size new ≤ limited_size (entries_denominator limits) (unsigned_abs old.denominator) limit (extent_size old)
-        → HasWidth new (w.denominator * entries_denominator limits) (limited_size (entries_denominator limits) w.denominator limit (size_in w v))
-    either None most = width_scaled old new w.denominator (size_in w v) (entries_denominator limits) (entries_denominator limits) has positive is most
-    either (Some x) most = width_limited old new w.denominator (size_in w v) (entries_denominator limits) (size_over (entries_denominator limits) x * unsigned_abs old.denominator)
-        (size_over (entries_denominator limits) x * w.denominator) has positive is most (omega (arith, ap (λ y. size_over (entries_denominator limits) x * y) has.over))
+    either : (limit : Option ℚ) → extent_size new ≤ limited_size (entries_denominator limits) (unsigned_abs old.denominator) limit
+        (extent_size old)
+        → HasWidth new (w.denominator * entries_denominator limits)
+        (limited_size (entries_denominator limits) w.denominator limit (size_in w v))
+    either None most = width_scaled old new w.denominator (size_in w v) (entries_denominator limits)
+        (entries_denominator limits) has positive is most
+    either (Some x) most = width_limited old new w.denominator (size_in w v) (entries_denominator limits)
+        (size_over (entries_denominator limits) x * unsigned_abs old.denominator)
+        (size_over (entries_denominator limits) x * w.denominator) has positive is most
+        (omega (arith, ap (λ y. size_over (entries_denominator limits) x * y) has.over))
 
 -- ---- Dither
-dither_quotient : (old : Extent) (d size f : ℕ) → 0 < d * f → (has : HasWidth old d size) → d * f / unsigned_abs old.denominator ≡ has.factor * f
-dither_quotient old d size f some has = quotient_of (unsigned_abs old.denominator) (has.factor * f) (d * f) some (omega (arith, ap (λ x. x * f) has.over))
+dither_quotient : (old : Extent) (d size f : ℕ) → 0 < d * f → (has : HasWidth old d size)
+    → d * f / unsigned_abs old.denominator ≡ has.factor * f
+dither_quotient old d size f some has = quotient_of (unsigned_abs old.denominator) (has.factor * f) (d * f) some
+    (omega (arith, ap (λ x. x * f) has.over))
 
-pub dither_fits : (k v : ℕ) (old : Extent) (w next : Width) (e : ℕ) → k ≤ 4 → AreSame next (dithered_width k w) → IsSmall w → IsSmall next → v < 4
+pub dither_fits : (k v : ℕ) (old : Extent) (w next : Width) (e : ℕ) → k ≤ 4 → AreSame next (dithered_width k w) → IsSmall w → IsSmall next
+    → v < 4
     → HasWidth old w.denominator (size_in w v) → MadeFits (Dither k) v old e next.denominator
 dither_fits k v old w next e few same small next_small below has =
     let p = 2 * 4 ^ k in
@@ -139,7 +163,14 @@ dither_fits k v old w next e few same small next_small below has =
       by_value = refl;
       positive = has.positive;
       denominator = next_small.denominator;
-      size = omega (arith, ap (λ x. extent_size old * x) quotient, mul-le-mul_right f has.most, size, same.denominator, next_small.sizes v below);
+      size = omega (
+        arith,
+        ap (λ x. extent_size old * x) quotient,
+        mul-le-mul_right f has.most,
+        size,
+        same.denominator,
+        next_small.sizes v below,
+      );
       factors = (
         next_small.positive,
         few,
@@ -150,7 +181,8 @@ dither_fits k v old w next e few same small next_small below has =
 
 pub dither_width : (k v : ℕ) (old new : Extent) (w next : Width) → AreSame next (dithered_width k w) → IsSmall w → IsSmall next → v < 4
     → HasWidth old w.denominator (size_in w v) → pos 0 <ℤ new.denominator → unsigned_abs new.denominator ≡ next.denominator
-    → extent_size new ≤ extent_size old * (next.denominator / unsigned_abs old.denominator) + next.denominator → HasWidth new next.denominator (size_in next v)
+    → extent_size new ≤ extent_size old * (next.denominator / unsigned_abs old.denominator) + next.denominator
+    → HasWidth new next.denominator (size_in next v)
 dither_width k v old new w next same small next_small below has positive is most =
     let f = factor w.denominator (2 * 4 ^ k) in
     let size = size_of_value _ (λ i. size_in w i * f + w.denominator * f) next v below same in
@@ -164,7 +196,8 @@ dither_width k v old new w next same small next_small below has positive is most
     (sym same.denominator) (sym size)
 
 -- ---- Linear
-term_below : (e d size : ℕ) (c : ℚ) (old : Extent) → 0 < d → HasWidth old d size → size_over e c * (extent_size old * (d / unsigned_abs old.denominator)) ≤ size_over e c * size
+term_below : (e d size : ℕ) (c : ℚ) (old : Extent) → 0 < d → HasWidth old d size
+    → size_over e c * (extent_size old * (d / unsigned_abs old.denominator)) ≤ size_over e c * size
 term_below e d size c old some has =
     let quotient = quotient_of (unsigned_abs old.denominator) has.factor d some has.over in
     mul-le-mul_left (size_over e c) (at_most (extent_size old) (d / unsigned_abs old.denominator) has.factor size quotient has.most)
@@ -172,14 +205,16 @@ term_below e d size c old some has =
     at_most : (s q g n : ℕ) → q ≡ g → s * g ≤ n → s * q ≤ n
     at_most s q g n is h = omega (arith, ap (λ x. s * x) is, h)
 
-pub row_fits : (rows : List (List ℚ)) (v : ℕ) (before : Form) (w next : Width) → before.count ≡ 4 → AreSame next (mapped_width rows w) → IsSmall w → IsSmall next → v < 4
+pub row_fits : (rows : List (List ℚ)) (v : ℕ) (before : Form) (w next : Width) → before.count ≡ 4 → AreSame next (mapped_width rows w)
+    → IsSmall w → IsSmall next → v < 4
     → ((j : ℕ) → j < 4 → HasWidth (extent_at before j) w.denominator (size_in w j))
     → RowWithin (rows_denominator rows) w.denominator (row_of rows v) before
 row_fits rows v before w next count same small next_small below has =
     let e = rows_denominator rows in
     let row = row_of rows v in
     let size = size_of_value _ (λ i. row_size e (row_of rows i) w) next v below same in
-    let term = λ (j : ℕ) (small_j : j < 4). term_below e w.denominator (size_in w j) (fraction_in row j) (extent_at before j) small.positive (has j small_j) in
+    let term = λ (j : ℕ) (small_j : j < 4). term_below e w.denominator (size_in w j) (fraction_in row j) (extent_at before j) small.positive
+    (has j small_j) in
     record {
       count = count;
       some = (rows_positive rows, small.positive);
@@ -187,18 +222,29 @@ row_fits rows v before w next count same small next_small below has =
       positive = λ j small_j. (has j small_j).positive;
       over = λ j small_j. multiple_of (extent_at before j) w.denominator (size_in w j) small.positive (has j small_j);
       whole = λ j small_j. div-mul_cancel (fraction_in row j).denominator (rows_each rows v j);
-      most = omega (arith, term 0 (omega arith), term 1 (omega arith), term 2 (omega arith), term 3 (omega arith), size, next_small.sizes v below);
+      most = omega (
+        arith,
+        term 0 (omega arith),
+        term 1 (omega arith),
+        term 2 (omega arith),
+        term 3 (omega arith),
+        size,
+        next_small.sizes v below,
+      );
     }
 
-pub row_width : (rows : List (List ℚ)) (v : ℕ) (before : Form) (new : Extent) (w next : Width) → AreSame next (mapped_width rows w) → IsSmall w → v < 4
+pub row_width : (rows : List (List ℚ)) (v : ℕ) (before : Form) (new : Extent) (w next : Width) → AreSame next (mapped_width rows w)
+    → IsSmall w → v < 4
     → ((j : ℕ) → j < 4 → HasWidth (extent_at before j) w.denominator (size_in w j)) → pos 0 <ℤ new.denominator
-    → unsigned_abs new.denominator ≡ w.denominator * rows_denominator rows → extent_size new ≤ row_most (rows_denominator rows) w.denominator (row_of rows v) before
+    → unsigned_abs new.denominator ≡ w.denominator * rows_denominator rows
+    → extent_size new ≤ row_most (rows_denominator rows) w.denominator (row_of rows v) before
     → HasWidth new next.denominator (size_in next v)
 row_width rows v before new w next same small below has positive is most =
     let e = rows_denominator rows in
     let row = row_of rows v in
     let size = size_of_value _ (λ i. row_size e (row_of rows i) w) next v below same in
-    let term = λ (j : ℕ) (small_j : j < 4). term_below e w.denominator (size_in w j) (fraction_in row j) (extent_at before j) small.positive (has j small_j) in
+    let term = λ (j : ℕ) (small_j : j < 4). term_below e w.denominator (size_in w j) (fraction_in row j) (extent_at before j) small.positive
+    (has j small_j) in
     record {
       positive = positive;
       factor = 1;

@@ -1,5 +1,6 @@
 -- A row of Linear, within the width of a list.
-use Rattle.std.proofs.Common.{◌≡◌, ℕ, zero, suc, ◌+◌, ◌*◌, ◌/◌, ◌^◌, ◌<◌, ◌≤◌, ◌⊎◌, inl, inr, ⊎_elim, List, ℤ, pos, negsuc, ◌*ℤ◌, ◌+ℤ◌, refl, sym, ap, ◌∙◌, arith, subst, FitsSigned}
+use Rattle.std.proofs.Common.{◌≡◌, ℕ, zero, suc, ◌+◌, ◌*◌, ◌/◌, ◌^◌, ◌<◌, ◌≤◌, ◌⊎◌, inl, inr, ⊎_elim, List, ℤ, pos, negsuc, ◌*ℤ◌, ◌+ℤ◌}
+use Rattle.std.proofs.Common.{refl, sym, ap, ◌∙◌, arith, subst, FitsSigned}
 use Rattle.std.specs.Prelude.{◌≤ℤ◌, ◌<ℤ◌, unsigned_abs}
 use Rattle.std.specs.Int.{w128}
 use Rattle.std.proofs.Math.IntN.{pos-*ℤ-pos}
@@ -40,7 +41,8 @@ nothing_there old h = (none old.least (omega (arith, h)), none old.greatest (ome
     none (pos n) h = ap pos h
     none (negsuc n) h = absurd (omega (arith, h))
 
-pub term_of : (before : Form) (j : ℕ) (c : ℚ) (k : ℤ) (d : ℕ) → before.count ≡ 4 → j < 4 → IsFactorOf (extent_at before j) c k d → IsTerm before c k d j
+pub term_of : (before : Form) (j : ℕ) (c : ℚ) (k : ℤ) (d : ℕ) → before.count ≡ 4 → j < 4 → IsFactorOf (extent_at before j) c k d
+    → IsTerm before c k d j
 term_of before j c k d count below is =
     let there : j < before.count = omega (arith, count, below) in
     ⊎_elim
@@ -60,7 +62,8 @@ next_size : (s k n : ℤ) (m t : ℕ) → unsigned_abs s ≤ m → unsigned_abs 
 unfolding with_product
 next_size s k n m t sum product = omega (arith, abs_sum s (k *ℤ n), sum, product)
 
-pub row_is : (before : Form) (row : List ℚ) (factors : List ℤ) (new : Extent) (d size : ℕ) → before.count ≡ 4 → 0 < d → IsAround new d size → size < 2 ^ 126
+pub row_is : (before : Form) (row : List ℚ) (factors : List ℤ) (new : Extent) (d size : ℕ) → before.count ≡ 4 → 0 < d → IsAround new d size
+    → size < 2 ^ 126
     → ((j : ℕ) → j < 4 → IsTerm before (fraction_in row j) (factor factors j) d j)
     → factor factors 4 *ℤ pos (fraction_in row 4).denominator ≡ (fraction_in row 4).numerator *ℤ pos d
     → ((j : ℕ) → j < 5 → unsigned_abs (factor factors j) < 2 ^ 126)
@@ -68,12 +71,21 @@ pub row_is : (before : Form) (row : List ℚ) (factors : List ℤ) (new : Extent
     → IsRow w128 before row factors new
 row_is before row factors new d size count some around small terms constant entries total =
     let same = around_size new d size around in
-    let product : (numbers : ℕ → ℤ) → IsInside before numbers → (j : ℕ) → j < 4 → unsigned_abs (factor factors j *ℤ numbers j) ≤ part before factors j =
-    λ numbers inside j below. omega (arith, product_size (extent_at before j) (factor factors j) (numbers j) (inside j (omega (arith, count, below)))) in
-    let one = λ (numbers : ℕ → ℤ) (inside : IsInside before numbers). next_size (factor factors 4) (factor factors 0) (numbers 0) _ _ (at_most (unsigned_abs (factor factors 4))) (product numbers inside 0 (omega arith)) in
-    let two = λ (numbers : ℕ → ℤ) (inside : IsInside before numbers). next_size (row_sum factors numbers 1) (factor factors 1) (numbers 1) _ _ (one numbers inside) (product numbers inside 1 (omega arith)) in
-    let three = λ (numbers : ℕ → ℤ) (inside : IsInside before numbers). next_size (row_sum factors numbers 2) (factor factors 2) (numbers 2) _ _ (two numbers inside) (product numbers inside 2 (omega arith)) in
-    let four = λ (numbers : ℕ → ℤ) (inside : IsInside before numbers). next_size (row_sum factors numbers 3) (factor factors 3) (numbers 3) _ _ (three numbers inside) (product numbers inside 3 (omega arith)) in
+    let product : (numbers : ℕ → ℤ) → IsInside before numbers → (j : ℕ) → j < 4
+    → unsigned_abs (factor factors j *ℤ numbers j) ≤ part before factors j =
+    λ numbers inside j below. omega (
+      arith,
+      product_size (extent_at before j) (factor factors j) (numbers j)
+          (inside j (omega (arith, count, below))),
+    ) in
+    let one = λ (numbers : ℕ → ℤ) (inside : IsInside before numbers). next_size (factor factors 4) (factor factors 0) (numbers 0) _ _
+    (at_most (unsigned_abs (factor factors 4))) (product numbers inside 0 (omega arith)) in
+    let two = λ (numbers : ℕ → ℤ) (inside : IsInside before numbers). next_size (row_sum factors numbers 1) (factor factors 1)
+    (numbers 1) _ _ (one numbers inside) (product numbers inside 1 (omega arith)) in
+    let three = λ (numbers : ℕ → ℤ) (inside : IsInside before numbers). next_size (row_sum factors numbers 2) (factor factors 2)
+    (numbers 2) _ _ (two numbers inside) (product numbers inside 2 (omega arith)) in
+    let four = λ (numbers : ℕ → ℤ) (inside : IsInside before numbers). next_size (row_sum factors numbers 3) (factor factors 3)
+    (numbers 3) _ _ (three numbers inside) (product numbers inside 3 (omega arith)) in
     record {
       positive = omega (arith, same, some);
       terms = λ j below. rw same (terms j below);
@@ -83,7 +95,8 @@ row_is before row factors new d size count some around small terms constant entr
         products = λ j below. small_fits (factor factors j *ℤ numbers j) size
             (four_cases (λ t. unsigned_abs (factor factors t *ℤ numbers t) ≤ size) j below
             (omega (arith, total, product numbers inside 0 (omega arith))) (omega (arith, total, product numbers inside 1 (omega arith)))
-            (omega (arith, total, product numbers inside 2 (omega arith))) (omega (arith, total, product numbers inside 3 (omega arith)))) small;
+            (omega (arith, total, product numbers inside 2 (omega arith))) (omega (arith, total, product numbers inside 3 (omega arith))))
+            small;
         sums = λ j below. small_fits (row_sum factors numbers j) size
             (five_cases (λ t. unsigned_abs (row_sum factors numbers t) ≤ size) j below
             (omega (arith, total)) (omega (arith, total, one numbers inside)) (omega (arith, total, two numbers inside))
@@ -96,8 +109,10 @@ row_is before row factors new d size count some around small terms constant entr
     at_most n = omega arith
 
 -- the sum of what its parts are bounded by
-pub total_below : (before : Form) (factors : List ℤ) (e d : ℕ) (row : List ℚ) → unsigned_abs (factor factors 4) ≡ size_over e (fraction_in row 4) * d
-    → ((j : ℕ) → j < 4 → part before factors j ≤ term_most e d (fraction_in row j) (extent_at before j)) → row_total before factors ≤ row_most e d row before
+pub total_below : (before : Form) (factors : List ℤ) (e d : ℕ) (row : List ℚ)
+    → unsigned_abs (factor factors 4) ≡ size_over e (fraction_in row 4) * d
+    → ((j : ℕ) → j < 4 → part before factors j ≤ term_most e d (fraction_in row j) (extent_at before j))
+    → row_total before factors ≤ row_most e d row before
 total_below before factors e d row constant parts =
     omega (arith, constant, parts 0 (omega arith), parts 1 (omega arith), parts 2 (omega arith), parts 3 (omega arith))
 
@@ -115,14 +130,20 @@ constant_within e d row before within = omega (arith, within.most)
 pub factor_term : (old : Extent) (c : ℚ) (k : ℤ) (e d : ℕ) → IsMultiple e c.denominator → IsMultiple d (unsigned_abs old.denominator)
     → k ≡ c.numerator *ℤ pos (e / c.denominator * (d / unsigned_abs old.denominator)) → IsFactorOf old c k (d * e)
 factor_term old c k e d whole over is =
-    inl (term_value c.numerator k (e / c.denominator) (d / unsigned_abs old.denominator) (unsigned_abs old.denominator) c.denominator d e is whole over)
+    inl (term_value c.numerator k (e / c.denominator) (d / unsigned_abs old.denominator)
+    (unsigned_abs old.denominator) c.denominator d e is whole over)
 
 pub factor_size : (old : Extent) (c : ℚ) (k : ℤ) (e d : ℕ) → k ≡ c.numerator *ℤ pos (e / c.denominator * (d / unsigned_abs old.denominator))
     → unsigned_abs k * extent_size old ≤ term_most e d c old
-factor_size old c k e d is = omega (arith, term_size c.numerator k (e / c.denominator) (d / unsigned_abs old.denominator) (extent_size old) is)
+factor_size old c k e d is = omega (
+  arith,
+  term_size c.numerator k (e / c.denominator) (d / unsigned_abs old.denominator)
+      (extent_size old) is,
+)
 
 pub factor_times : (old : Extent) (c : ℚ) (e d : ℕ) → 0 < unsigned_abs c.numerator → 0 < extent_size old → term_most e d c old < 2 ^ 126
-    → (e / c.denominator * (d / unsigned_abs old.denominator) < 2 ^ 126) × (unsigned_abs c.numerator * (e / c.denominator * (d / unsigned_abs old.denominator)) < 2 ^ 126)
+    → (e / c.denominator * (d / unsigned_abs old.denominator) < 2 ^ 126)
+    × (unsigned_abs c.numerator * (e / c.denominator * (d / unsigned_abs old.denominator)) < 2 ^ 126)
 factor_times old c e d some there small = (
   times_small (unsigned_abs c.numerator) (e / c.denominator) (extent_size old) (d / unsigned_abs old.denominator) some there small,
   product_small (unsigned_abs c.numerator) (e / c.denominator) (extent_size old) (d / unsigned_abs old.denominator) there small,

@@ -1,5 +1,6 @@
 -- Each value made from that value alone, within the width of a list.
-use Rattle.std.proofs.Common.{◌≡◌, ℕ, zero, suc, ◌+◌, ◌-◌, ◌*◌, ◌/◌, ◌^◌, ◌<◌, ◌≤◌, max, inl, ⊎_elim, ℤ, pos, negsuc, ◌*ℤ◌, ◌+ℤ◌, refl, sym, ap, ◌∙◌, arith, subst, FitsSigned, to_z, of_z}
+use Rattle.std.proofs.Common.{◌≡◌, ℕ, zero, suc, ◌+◌, ◌-◌, ◌*◌, ◌/◌, ◌^◌, ◌<◌, ◌≤◌, max, inl, ⊎_elim, ℤ, pos, negsuc, ◌*ℤ◌, ◌+ℤ◌, refl, sym}
+use Rattle.std.proofs.Common.{ap, ◌∙◌, arith, subst, FitsSigned, to_z, of_z}
 use Rattle.std.specs.Prelude.{◌≤ℤ◌, ◌<ℤ◌, unsigned_abs}
 use Rattle.std.specs.Int.{w128}
 use Rattle.std.proofs.Math.IntN.{pos-*ℤ-pos}
@@ -49,11 +50,13 @@ pub around_size : (extent : Extent) (d size : ℕ) → IsAround extent d size �
 around_size extent d size h = ap unsigned_abs h.denominator
 
 -- ---- factors
-pub scale_factor : (old new : Extent) (by : ℚ) → 0 < unsigned_abs new.denominator → unsigned_abs new.denominator ≡ unsigned_abs old.denominator * by.denominator
+pub scale_factor : (old new : Extent) (by : ℚ) → 0 < unsigned_abs new.denominator
+    → unsigned_abs new.denominator ≡ unsigned_abs old.denominator * by.denominator
     → IsFactor old by by.numerator new
 scale_factor old new by positive is = record { positive = positive; term = ap (λ n. by.numerator *ℤ pos n) (sym is) }
 
-pub raised_factor : (old new : Extent) (e : ℕ) → 0 < unsigned_abs new.denominator → unsigned_abs new.denominator ≡ unsigned_abs old.denominator * e
+pub raised_factor : (old new : Extent) (e : ℕ) → 0 < unsigned_abs new.denominator
+    → unsigned_abs new.denominator ≡ unsigned_abs old.denominator * e
     → IsFactor old (nat 1) (pos e) new
 raised_factor old new e positive is = record {
   positive = positive;
@@ -71,7 +74,8 @@ scaled_is old new by k d size around over fits most small = record {
 }
 
 pub minimum_is : (old new : Extent) (limit : ℚ) (e size : ℕ) → IsFactor old (nat 1) (pos e) new → e < 2 ^ 126
-    → extent_size old * e ≤ size → size < 2 ^ 126 → extent_size new ≤ size → ((n : ℤ) → unsigned_abs n ≤ size → new.least ≤ℤ n) → IsOver new limit new.greatest
+    → extent_size old * e ≤ size → size < 2 ^ 126 → extent_size new ≤ size → ((n : ℤ) → unsigned_abs n ≤ size → new.least ≤ℤ n)
+    → IsOver new limit new.greatest
     → IsMinimum w128 old limit (pos e) new
 minimum_is old new limit e size over e_small most small within least is = record {
   over = over;
@@ -85,7 +89,8 @@ minimum_is old new limit e size over e_small most small within least is = record
 }
 
 pub maximum_is : (old new : Extent) (limit : ℚ) (e size : ℕ) → IsFactor old (nat 1) (pos e) new → e < 2 ^ 126
-    → extent_size old * e ≤ size → size < 2 ^ 126 → extent_size new ≤ size → ((n : ℤ) → unsigned_abs n ≤ size → n ≤ℤ new.greatest) → IsOver new limit new.least
+    → extent_size old * e ≤ size → size < 2 ^ 126 → extent_size new ≤ size → ((n : ℤ) → unsigned_abs n ≤ size → n ≤ℤ new.greatest)
+    → IsOver new limit new.least
     → IsMaximum w128 old limit (pos e) new
 maximum_is old new limit e size over e_small most small within greatest is = record {
   over = over;
@@ -158,49 +163,65 @@ scaled_made old new by k positive is fits around small =
     let same = around_size new _ _ around in
     scaled_is old new by k _ _ around
     (subst (λ z. IsFactor old by z new) (sym is) (scale_factor old new by
-    (omega (arith, same, product_positive (unsigned_abs old.denominator) by.denominator (abs_positive old.denominator positive) (denominator_positive by))) same))
+    (omega (
+      arith,
+      same,
+      product_positive (unsigned_abs old.denominator) by.denominator (abs_positive old.denominator positive)
+          (denominator_positive by),
+    )) same))
     fits (omega (arith, ap (λ z. extent_size old * unsigned_abs z) is)) small
 
-raised_over : (old new : Extent) (e : ℕ) (k : ℤ) → pos 0 <ℤ old.denominator → 0 < e → k ≡ pos e → new.denominator ≡ pos (unsigned_abs old.denominator * e)
+raised_over : (old new : Extent) (e : ℕ) (k : ℤ) → pos 0 <ℤ old.denominator → 0 < e → k ≡ pos e
+    → new.denominator ≡ pos (unsigned_abs old.denominator * e)
     → IsFactor old (nat 1) (pos e) new
 raised_over old new e k positive some is same =
     raised_factor old new e
-    (omega (arith, ap unsigned_abs same, product_positive (unsigned_abs old.denominator) e (abs_positive old.denominator positive) some)) (ap unsigned_abs same)
+    (omega (arith, ap unsigned_abs same, product_positive (unsigned_abs old.denominator) e (abs_positive old.denominator positive) some))
+    (ap unsigned_abs same)
 
 pub raised_made : (old new : Extent) (e : ℕ) (k : ℤ) → pos 0 <ℤ old.denominator → 0 < e → k ≡ pos e → e < 2 ^ 126
-    → IsAround new (unsigned_abs old.denominator * e) (extent_size old * e) → extent_size old * e < 2 ^ 126 → IsScaled w128 old (nat 1) k new
+    → IsAround new (unsigned_abs old.denominator * e) (extent_size old * e) → extent_size old * e < 2 ^ 126
+    → IsScaled w128 old (nat 1) k new
 raised_made old new e k positive some is e_small around small =
     subst (λ z. IsScaled w128 old (nat 1) z new) (sym is)
-    (scaled_is old new (nat 1) (pos e) _ _ around (raised_over old new e k positive some is around.denominator) (small_fits (pos e) e (omega arith) e_small) (omega arith) small)
+    (scaled_is old new (nat 1) (pos e) _ _ around (raised_over old new e k positive some is around.denominator)
+    (small_fits (pos e) e (omega arith) e_small) (omega arith) small)
 
 pub minimum_made : (old new wide : Extent) (limit : ℚ) (e size : ℕ) (k cut : ℤ) → pos 0 <ℤ old.denominator → 0 < e → k ≡ pos e → e < 2 ^ 126
-    → IsAround wide (unsigned_abs old.denominator * e) size → new.denominator ≡ wide.denominator → new.least ≡ wide.least → new.greatest ≡ cut
-    → size ≡ max (extent_size old * e) (unsigned_abs cut) → size < 2 ^ 126 → cut *ℤ pos limit.denominator ≡ limit.numerator *ℤ pos (unsigned_abs old.denominator * e)
+    → IsAround wide (unsigned_abs old.denominator * e) size → new.denominator ≡ wide.denominator → new.least ≡ wide.least
+    → new.greatest ≡ cut
+    → size ≡ max (extent_size old * e) (unsigned_abs cut) → size < 2 ^ 126
+    → cut *ℤ pos limit.denominator ≡ limit.numerator *ℤ pos (unsigned_abs old.denominator * e)
     → IsMinimum w128 old limit k new
 minimum_made old new wide limit e size k cut positive some is e_small around over least greatest size_is small value =
     let same : unsigned_abs new.denominator ≡ unsigned_abs old.denominator * e = ap unsigned_abs (over ∙ around.denominator) in
     subst (λ z. IsMinimum w128 old limit z new) (sym is)
-    (minimum_is old new limit e size (raised_over old new e k positive some is (over ∙ around.denominator)) e_small (omega (arith, size_is)) small
+    (minimum_is old new limit e size (raised_over old new e k positive some is (over ∙ around.denominator)) e_small
+    (omega (arith, size_is)) small
     (omega (arith, ap unsigned_abs least, ap unsigned_abs greatest, size_is, around.most))
     (λ n h. subst (λ z. z ≤ℤ n) (sym least) (around.inside n h).0)
     (subst (λ z. z *ℤ pos limit.denominator ≡ limit.numerator *ℤ pos (unsigned_abs new.denominator)) (sym greatest)
     (value ∙ ap (λ n. limit.numerator *ℤ pos n) (sym same))))
 
 pub maximum_made : (old new wide : Extent) (limit : ℚ) (e size : ℕ) (k cut : ℤ) → pos 0 <ℤ old.denominator → 0 < e → k ≡ pos e → e < 2 ^ 126
-    → IsAround wide (unsigned_abs old.denominator * e) size → new.denominator ≡ wide.denominator → new.greatest ≡ wide.greatest → new.least ≡ cut
-    → size ≡ max (extent_size old * e) (unsigned_abs cut) → size < 2 ^ 126 → cut *ℤ pos limit.denominator ≡ limit.numerator *ℤ pos (unsigned_abs old.denominator * e)
+    → IsAround wide (unsigned_abs old.denominator * e) size → new.denominator ≡ wide.denominator → new.greatest ≡ wide.greatest
+    → new.least ≡ cut
+    → size ≡ max (extent_size old * e) (unsigned_abs cut) → size < 2 ^ 126
+    → cut *ℤ pos limit.denominator ≡ limit.numerator *ℤ pos (unsigned_abs old.denominator * e)
     → IsMaximum w128 old limit k new
 maximum_made old new wide limit e size k cut positive some is e_small around over greatest least size_is small value =
     let same : unsigned_abs new.denominator ≡ unsigned_abs old.denominator * e = ap unsigned_abs (over ∙ around.denominator) in
     subst (λ z. IsMaximum w128 old limit z new) (sym is)
-    (maximum_is old new limit e size (raised_over old new e k positive some is (over ∙ around.denominator)) e_small (omega (arith, size_is)) small
+    (maximum_is old new limit e size (raised_over old new e k positive some is (over ∙ around.denominator)) e_small
+    (omega (arith, size_is)) small
     (omega (arith, ap unsigned_abs least, ap unsigned_abs greatest, size_is, around.most))
     (λ n h. subst (λ z. n ≤ℤ z) (sym greatest) (around.inside n h).1)
     (subst (λ z. z *ℤ pos limit.denominator ≡ limit.numerator *ℤ pos (unsigned_abs new.denominator)) (sym least)
     (value ∙ ap (λ n. limit.numerator *ℤ pos n) (sym same))))
 
 pub dithered_made : (old new : Extent) (count places d h : ℕ) (k unit : ℤ) → pos 0 <ℤ old.denominator → 0 < d → places ≡ 2 * 4 ^ count
-    → h * unsigned_abs old.denominator ≡ d → d / places * places ≡ d → d < 2 ^ 126 → extent_size old * h + d < 2 ^ 126 → k ≡ pos h → unit ≡ pos (d / places)
+    → h * unsigned_abs old.denominator ≡ d → d / places * places ≡ d → d < 2 ^ 126 → extent_size old * h + d < 2 ^ 126 → k ≡ pos h
+    → unit ≡ pos (d / places)
     → IsAround new d (extent_size old * h + d) → IsDithered w128 old count k unit new
 dithered_made old new count places d h k unit positive some place over whole d_small small k_is unit_is around =
     let same = around_size new _ _ around in
@@ -213,7 +234,8 @@ dithered_made old new count places d h k unit positive some place over whole d_s
 
 -- ---- the width of the new value
 pub width_scaled : (old new : Extent) (d size times f : ℕ) → HasWidth old d size → pos 0 <ℤ new.denominator
-    → unsigned_abs new.denominator ≡ unsigned_abs old.denominator * times → extent_size new ≤ extent_size old * f → HasWidth new (d * times) (size * f)
+    → unsigned_abs new.denominator ≡ unsigned_abs old.denominator * times → extent_size new ≤ extent_size old * f
+    → HasWidth new (d * times) (size * f)
 width_scaled old new d size times f has positive is most = record {
   positive = positive;
   factor = has.factor;
@@ -229,7 +251,8 @@ width_limited old new d size e m n has positive is most limit = record {
   positive = positive;
   factor = has.factor;
   over = omega (arith, is, ap (λ x. x * has.factor) is, ap (λ x. x * e) has.over);
-  most = limited (extent_size old * e) m (size * e) n has.factor (omega (arith, mul-le-mul_right e has.most)) limit (mul-le-mul_right has.factor most);
+  most = limited (extent_size old * e) m (size * e) n has.factor (omega (arith, mul-le-mul_right e has.most)) limit
+      (mul-le-mul_right has.factor most);
 }
   where
     limited : (a m b n g : ℕ) → a * g ≤ b → m * g ≡ n → extent_size new * g ≤ max a m * g → extent_size new * g ≤ max b n
@@ -241,7 +264,8 @@ width_limited old new d size e m n has positive is most limit = record {
 
 -- over a new denominator: k = f * factor
 pub width_dithered : (old new : Extent) (d size f k : ℕ) → (has : HasWidth old d size) → 0 < d → pos 0 <ℤ new.denominator
-    → unsigned_abs new.denominator ≡ d * f → k * unsigned_abs old.denominator ≡ d * f → extent_size new ≤ extent_size old * k + d * f → HasWidth new (d * f) (size * f + d * f)
+    → unsigned_abs new.denominator ≡ d * f → k * unsigned_abs old.denominator ≡ d * f → extent_size new ≤ extent_size old * k + d * f
+    → HasWidth new (d * f) (size * f + d * f)
 width_dithered old new d size f k has positive above is factor most = record {
   positive = above;
   factor = 1;
@@ -249,9 +273,11 @@ width_dithered old new d size f k has positive above is factor most = record {
   most = omega (arith, most, ap (λ x. extent_size old * x) (factor_is old d size f k has positive factor), mul-le-mul_right f has.most);
 }
   where
-    factor_is : (old : Extent) (d size f k : ℕ) → (has : HasWidth old d size) → 0 < d → k * unsigned_abs old.denominator ≡ d * f → k ≡ has.factor * f
+    factor_is : (old : Extent) (d size f k : ℕ) → (has : HasWidth old d size) → 0 < d → k * unsigned_abs old.denominator ≡ d * f
+        → k ≡ has.factor * f
     factor_is old d size f k has positive h =
-        eq_of_mul-eq-mul_right (unsigned_abs old.denominator) (some (unsigned_abs old.denominator) has.factor d has.over positive) k (has.factor * f)
+        eq_of_mul-eq-mul_right (unsigned_abs old.denominator) (some (unsigned_abs old.denominator) has.factor d has.over positive) k
+        (has.factor * f)
         (omega (arith, h, ap (λ x. x * f) has.over))
       where
         some : (a g d : ℕ) → a * g ≡ d → 0 < d → 0 < a

@@ -1,5 +1,6 @@
 -- The widths on the way through a list that fits stay below 2^126.
-use Rattle.std.proofs.Common.{◌≡◌, ℕ, zero, suc, ◌+◌, ◌-◌, ◌^◌, ◌<◌, ◌≤◌, Bool, true, false, List, [], ◌∷◌, length, take, drop, max, min, if◌then◌else◌, refl, sym, ap, ◌∙◌, arith, subst, add-one}
+use Rattle.std.proofs.Common.{◌≡◌, ℕ, zero, suc, ◌+◌, ◌-◌, ◌^◌, ◌<◌, ◌≤◌, Bool, true, false, List, [], ◌∷◌, length, take, drop, max, min}
+use Rattle.std.proofs.Common.{if◌then◌else◌, refl, sym, ap, ◌∙◌, arith, subst, add-one}
 use Rattle.std.specs.Prelude.{Option, Some, None}
 use Rattle.op_list.specs.declared.types.PixType.{PixType}
 use Rattle.op_list.specs.declared.types.PixType.TheVariants.{U8, U16, U32, Rat}
@@ -12,7 +13,8 @@ use Rattle.op_list.specs.Typing.{are_typed, stage_after, stage_from}
 use Rattle.op_list.proofs.Typed.{typed_parts}
 use Rattle.op_list.proofs.Four.{get_or-four}
 use Rattle.op_range.specs.declared.width.Width.{Width}
-use Rattle.op_range.specs.Width.{size_in, own_size, own_width_from, own_width, has_fractions, width, whole_width, width_after, fractions_width}
+use Rattle.op_range.specs.Width.{size_in, own_size, own_width_from, own_width, has_fractions, width, whole_width, width_after}
+use Rattle.op_range.specs.Width.{fractions_width}
 use Rattle.op_range.specs.Capped.{capped, capped_width}
 use Rattle.op_range.proofs.Widths.{SameCapped, same_own, after_positive}
 use Rattle.op_range.proofs.Reaching.{no_fractions, is_capped, is_too_wide}
@@ -37,7 +39,8 @@ whole_small stage = record {
 }
 
 -- ---- an operation that leaves no fractions keeps a width of fractions
-left_alone : (stage : Stage) (op : Op) (w : Width) → is_rational stage ≡ true → is_rational (stage_after stage op) ≡ false → fractions_width op w ≡ w
+left_alone : (stage : Stage) (op : Op) (w : Width) → is_rational stage ≡ true → is_rational (stage_after stage op) ≡ false
+    → fractions_width op w ≡ w
 unfolding fractions_width stage_after
 left_alone stage (Read elem planes palette) w kind after = refl
 left_alone stage (Write elem planes) w kind after = refl
@@ -98,7 +101,8 @@ small_same v w same small = record {
   sizes = λ i below. omega (arith, same.sizes i below, small.sizes i below);
 }
 
-own_same : (stage : Stage) (ops : List Op) (v w : Width) (i : ℕ) → i < 4 → are_typed stage ops ≡ true → AreSame v w → own_width_from stage ops w i < 2 ^ 126
+own_same : (stage : Stage) (ops : List Op) (v w : Width) (i : ℕ) → i < 4 → are_typed stage ops ≡ true → AreSame v w
+    → own_width_from stage ops w i < 2 ^ 126
     → own_width_from stage ops v i < 2 ^ 126
 own_same stage ops v w i below typed same fits = omega (arith, fits, same_own stage ops v w i below typed (same_capped v w same))
 
@@ -112,18 +116,21 @@ rest_at : (ops : List Op) (k : ℕ) → k < length ops → drop k ops ≡ op_at 
 rest_at ops k within = rw add-one (rest_behind ops k within)
 
 -- the width after operation k is small
-pub walked_small : (ops : List Op) (k : ℕ) (w : Width) → k < length ops → IsWalked ops k w → IsSmall (width_after (stage_before ops k) (op_at ops k) w)
+pub walked_small : (ops : List Op) (k : ℕ) (w : Width) → k < length ops → IsWalked ops k w
+    → IsSmall (width_after (stage_before ops k) (op_at ops k) w)
 walked_small ops k w within walked =
     small_after (stage_before ops k) (op_at ops k) w walked.small
     (λ i below. (own_first (stage_before ops k) (op_at ops k) (drop (k + 1) ops) w i (rw (← rest_at ops k within) (walked.fits i below))).0)
 
-pub walked_more : (ops : List Op) (k : ℕ) (w next : Width) → k < length ops → IsWalked ops k w → AreSame next (width_after (stage_before ops k) (op_at ops k) w)
+pub walked_more : (ops : List Op) (k : ℕ) (w next : Width) → k < length ops → IsWalked ops k w
+    → AreSame next (width_after (stage_before ops k) (op_at ops k) w)
     → IsWalked ops (k + 1) next
 walked_more ops k w next within walked same =
     let stage = stage_before ops k in
     let op = op_at ops k in
     let after = width_after stage op w in
-    let typed : are_typed (stage_after stage op) (drop (k + 1) ops) ≡ true = (typed_parts stage op (drop (k + 1) ops) (rw (← rest_at ops k within) walked.typed)).2 in
+    let typed : are_typed (stage_after stage op) (drop (k + 1) ops) ≡ true =
+    (typed_parts stage op (drop (k + 1) ops) (rw (← rest_at ops k within) walked.typed)).2 in
     record {
       typed = rw (stage_more ops k within) typed;
       small = small_same next after same (walked_small ops k w within walked);
@@ -136,7 +143,8 @@ walked_more ops k w next within walked same =
 own_fits : (ops : List Op) (i : ℕ) → own_width ops i < 2 ^ 126 → own_width_from Start ops (whole_width 0) i < 2 ^ 126
 unfolding own_width
 own_fits ops i h = (elim (has_fractions Start ops) as
-    (λ t. has_fractions Start ops ≡ t → (if t then own_width_from Start ops (whole_width 0) i else 2 ^ 32) < 2 ^ 126 → own_width_from Start ops (whole_width 0) i < 2 ^ 126) [
+    (λ t. has_fractions Start ops ≡ t → (if t then own_width_from Start ops (whole_width 0) i else 2 ^ 32) < 2 ^ 126
+    → own_width_from Start ops (whole_width 0) i < 2 ^ 126) [
       | true ↦ λ t fits. fits
       | false ↦ λ t fits. omega (arith, no_fractions Start ops (whole_width 0) i t)
     ]) refl h

@@ -32,28 +32,34 @@ typed_whole (Typed Rat) t h = cc
 typed_whole Start t h = cc
 typed_whole Ended t h = cc
 
-pub convert_rational : (stage : Stage) (to : PixType) (expand : Bool) → may_follow stage (Convert to expand) ≡ true → is_whole stage ≡ false → is_rational stage ≡ true
+pub convert_rational : (stage : Stage) (to : PixType) (expand : Bool) → may_follow stage (Convert to expand) ≡ true → is_whole stage ≡ false
+    → is_rational stage ≡ true
 unfolding may_follow
 convert_rational stage to expand follows none = typed_kind stage follows none
 
-pub convert_whole : (stage : Stage) (to : PixType) (expand : Bool) → may_follow stage (Convert to expand) ≡ true → is_rational stage ≡ false → is_whole stage ≡ true
+pub convert_whole : (stage : Stage) (to : PixType) (expand : Bool) → may_follow stage (Convert to expand) ≡ true → is_rational stage ≡ false
+    → is_whole stage ≡ true
 unfolding may_follow
 convert_whole stage to expand follows none = typed_whole stage follows none
 
-same_fraction : (expand : Bool) (values : Values) (v : ℕ) → are_fractions values ≡ true → fraction (converted Rat expand values) v ≡ fraction values v
+same_fraction : (expand : Bool) (values : Values) (v : ℕ) → are_fractions values ≡ true
+    → fraction (converted Rat expand values) v ≡ fraction values v
 same_fraction expand (Fractions values) v kind = refl
 same_fraction expand (Numbers values) v kind = cc
 
-pub kept_bounded : {W N : Type 0} (digits : W → ℕ) (value : N → ℤ) (stage : Stage) (expand : Bool) (before after : Form) (values : List W) (numbers : List N)
+pub kept_bounded : {W N : Type 0} (digits : W → ℕ) (value : N → ℤ) (stage : Stage) (expand : Bool) (before after : Form) (values : List W)
+    (numbers : List N)
     → is_rational stage ≡ true → AreKept before after
-    → IsBounded digits value stage before values numbers → IsBounded digits value (stage_after stage (Convert Rat expand)) after values numbers
+    → IsBounded digits value stage before values numbers
+    → IsBounded digits value (stage_after stage (Convert Rat expand)) after values numbers
 unfolding stage_after
 kept_bounded {W} {N} digits value stage expand before after values numbers kind kept bounded = record {
   small = λ whole. cc;
   bound = λ rational v i d below within. let one = kept v below in rw one.same (bounded.bound kind v i d one.there within);
 }
 
-pub kept_performs : {W N : Type 0} (digits : W → ℕ) (value : N → ℤ) (stage : Stage) (expand : Bool) (before after : Form) (position : PixelPosition) (values : List W) (numbers : List N)
+pub kept_performs : {W N : Type 0} (digits : W → ℕ) (value : N → ℤ) (stage : Stage) (expand : Bool) (before after : Form)
+    (position : PixelPosition) (values : List W) (numbers : List N)
     → is_rational stage ≡ true → AreKept before after
     → Performs digits value stage before (Convert Rat expand) after position values numbers values numbers
 unfolding stage_after apply

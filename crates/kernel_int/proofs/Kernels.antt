@@ -1,5 +1,6 @@
 -- The operations of a list, one after the other.
-use Rattle.std.proofs.Common.{◌≡◌, ℕ, zero, suc, ◌+◌, ◌-◌, ◌^◌, ◌<◌, ◌≤◌, Bool, true, false, ℤ, List, [], ◌∷◌, ◌++◌, length, take, refl, sym, ap, ◌∙◌, arith, subst}
+use Rattle.std.proofs.Common.{◌≡◌, ℕ, zero, suc, ◌+◌, ◌-◌, ◌^◌, ◌<◌, ◌≤◌, Bool, true, false, ℤ, List, [], ◌∷◌, ◌++◌, length, take, refl}
+use Rattle.std.proofs.Common.{sym, ap, ◌∙◌, arith, subst}
 use Rattle.std.specs.Prelude.{sum, slice_index, nat_lt, nat_le, if◌then◌else◌, ◌&&◌}
 use Rattle.std.proofs.lemmas.Bool.{cond_below, and_parts, leb-true}
 use Rattle.std.proofs.lemmas.List.{take_more, take_all}
@@ -8,12 +9,14 @@ use Rattle.op_list.specs.declared.types.PixType.TheVariants.{U8, U16, U32, Rat}
 use Rattle.op_list.specs.declared.types.Stage.{Stage}
 use Rattle.op_list.specs.declared.types.Stage.TheVariants.{Start, Typed, Ended}
 use Rattle.op_list.specs.declared.op.Op.{Op}
-use Rattle.op_list.specs.declared.op.Op.TheVariants.{Read, Write, SwapBytes, Unpack, Pack, Clear, LeftShift, RightShift, Swizzle, Convert, Dither, Linear, Scale, Min, Max}
+use Rattle.op_list.specs.declared.op.Op.TheVariants.{Read, Write, SwapBytes, Unpack, Pack, Clear, LeftShift, RightShift, Swizzle, Convert}
+use Rattle.op_list.specs.declared.op.Op.TheVariants.{Dither, Linear, Scale, Min, Max}
 use Rattle.op_list.specs.declared.position.PixelPosition.{PixelPosition}
 use Rattle.op_list.specs.declared.values.Values.{Values}
 use Rattle.op_list.specs.Types.{bits, bits_at, has_type, is_whole, is_rational, is_whole_type}
 use Rattle.op_list.specs.Pixel.{element_of, frame_length, HasElements}
-use Rattle.op_list.specs.Typing.{may_follow, are_good, stage_after, stage_from, are_typed, are_counts, are_in_front, is_write, ends_with_write}
+use Rattle.op_list.specs.Typing.{may_follow, are_good, stage_after, stage_from, are_typed, are_counts, are_in_front, is_write}
+use Rattle.op_list.specs.Typing.{ends_with_write}
 use Rattle.op_list.specs.Values.{number, no_values, are_fractions}
 use Rattle.op_list.specs.Apply.{apply}
 use Rattle.op_list.specs.Run.{run, run_from, read_length}
@@ -25,7 +28,8 @@ use Rattle.kernel_int.specs.Forms.{op_at, form_at, stage_before, values_before, 
 use Rattle.kernel_int.specs.declared.form.Form.{Form}
 use Rattle.kernel_int.proofs.Fours.{four_at}
 
-typed_parts : (stage : Stage) (op : Op) (ops : List Op) → are_typed stage (op ∷ ops) ≡ true → (may_follow stage op ≡ true) × (are_good stage op ≡ true) × (are_typed (stage_after stage op) ops ≡ true)
+typed_parts : (stage : Stage) (op : Op) (ops : List Op) → are_typed stage (op ∷ ops) ≡ true
+    → (may_follow stage op ≡ true) × (are_good stage op ≡ true) × (are_typed (stage_after stage op) ops ≡ true)
 unfolding are_typed
 typed_parts stage op ops h =
     let p = and_parts (may_follow stage op && are_good stage op) (are_typed (stage_after stage op) ops) h in
@@ -41,15 +45,18 @@ typed_at : (stage : Stage) (ops : List Op) (k : ℕ) → are_typed stage ops ≡
 unfolding stage_from
 typed_at stage [] k typed within = absurd (omega (arith, within))
 typed_at stage (op ∷ ops) zero typed within = let t = typed_parts stage op ops typed in (t.0, t.1)
-typed_at stage (op ∷ ops) (suc k) typed within = typed_at (stage_after stage op) ops k (typed_parts stage op ops typed).2 (omega (arith, within))
+typed_at stage (op ∷ ops) (suc k) typed within =
+    typed_at (stage_after stage op) ops k (typed_parts stage op ops typed).2 (omega (arith, within))
 
-pub follows_at : (ops : List Op) (k : ℕ) → are_typed Start ops ≡ true → k < length ops → may_follow (stage_before ops k) (op_at ops k) ≡ true
+pub follows_at : (ops : List Op) (k : ℕ) → are_typed Start ops ≡ true → k < length ops
+    → may_follow (stage_before ops k) (op_at ops k) ≡ true
 follows_at ops k typed within = (typed_at Start ops k typed within).0
 
 pub good_at : (ops : List Op) (k : ℕ) → are_typed Start ops ≡ true → k < length ops → are_good (stage_before ops k) (op_at ops k) ≡ true
 good_at ops k typed within = (typed_at Start ops k typed within).1
 
-stage_from-append : (stage : Stage) (first second : List Op) → stage_from stage (first ++ second) ≡ stage_from (stage_from stage first) second
+stage_from-append : (stage : Stage) (first second : List Op)
+    → stage_from stage (first ++ second) ≡ stage_from (stage_from stage first) second
 unfolding stage_from
 stage_from-append stage [] second = refl
 stage_from-append stage (op ∷ first) second = stage_from-append (stage_after stage op) first second
@@ -58,27 +65,32 @@ one_stage : (stage : Stage) (op : Op) → stage_from stage (op ∷ []) ≡ stage
 unfolding stage_from
 one_stage stage op = refl
 
-one_run : (frame : List ℕ) (position : PixelPosition) (stage : Stage) (op : Op) (values : Values) → run_from frame position stage (op ∷ []) values ≡ apply frame position stage op values
+one_run : (frame : List ℕ) (position : PixelPosition) (stage : Stage) (op : Op) (values : Values)
+    → run_from frame position stage (op ∷ []) values ≡ apply frame position stage op values
 unfolding run_from
 one_run frame position stage op values = refl
 
 pub stage_more : (ops : List Op) (k : ℕ) → k < length ops → stage_before ops (k + 1) ≡ stage_after (stage_before ops k) (op_at ops k)
 stage_more ops k within =
-    ap (stage_from Start) (take_more ops k SwapBytes within) ∙ stage_from-append Start (take k ops) (op_at ops k ∷ []) ∙ one_stage (stage_before ops k) (op_at ops k)
+    ap (stage_from Start) (take_more ops k SwapBytes within) ∙ stage_from-append Start (take k ops) (op_at ops k ∷ [])
+    ∙ one_stage (stage_before ops k) (op_at ops k)
 
 pub values_more : (ops : List Op) (frame : List ℕ) (position : PixelPosition) (k i : ℕ) → k < length ops
-    → values_before ops frame position (k + 1) i ≡ apply frame (pixel_at position i) (stage_before ops k) (op_at ops k) (values_before ops frame position k i)
+    → values_before ops frame position (k + 1) i ≡ apply frame (pixel_at position i) (stage_before ops k) (op_at ops k)
+    (values_before ops frame position k i)
 unfolding values_before
 values_more ops frame position k i within =
     ap (λ o. run_from frame (pixel_at position i) Start o no_values) (take_more ops k SwapBytes within)
     ∙ run_from-append frame (pixel_at position i) Start (take k ops) (op_at ops k ∷ []) no_values
-    ∙ one_run frame (pixel_at position i) (stage_before ops k) (op_at ops k) (run_from frame (pixel_at position i) Start (take k ops) no_values)
+    ∙ one_run frame (pixel_at position i) (stage_before ops k) (op_at ops k)
+    (run_from frame (pixel_at position i) Start (take k ops) no_values)
 
 pub values_first : (ops : List Op) (frame : List ℕ) (position : PixelPosition) (i : ℕ) → values_before ops frame position 0 i ≡ no_values
 unfolding values_before run_from
 values_first ops frame position i = refl
 
-pub values_all : (ops : List Op) (frame : List ℕ) (position : PixelPosition) (k i : ℕ) → length ops ≤ k → values_before ops frame position k i ≡ run_from frame (pixel_at position i) Start ops no_values
+pub values_all : (ops : List Op) (frame : List ℕ) (position : PixelPosition) (k i : ℕ) → length ops ≤ k
+    → values_before ops frame position k i ≡ run_from frame (pixel_at position i) Start ops no_values
 unfolding values_before
 values_all ops frame position k i past = ap (λ o. run_from frame (pixel_at position i) Start o no_values) (take_all k ops past)
 
@@ -140,26 +152,33 @@ unfolding may_follow
 write_type stage (Write elem planes) w h = type_bits stage elem h
 write_type stage op w h = cc
 
-pub written_value : (frame : List ℕ) (position : PixelPosition) (stage : Stage) (op : Op) (values : Values) (v : ℕ) → is_write op ≡ true → v < 4 → v < sum (planes_of op)
+pub written_value : (frame : List ℕ) (position : PixelPosition) (stage : Stage) (op : Op) (values : Values) (v : ℕ) → is_write op ≡ true
+    → v < 4 → v < sum (planes_of op)
     → number (apply frame position stage op values) v ≡ number values v
 unfolding apply
 written_value frame position stage (Write elem planes) values v w small within =
-    four_at (λ i. if nat_lt i (sum planes) then number values i else 0) v 0 small ∙ sym (cond_below v (sum planes) (number values v) 0 within)
+    four_at (λ i. if nat_lt i (sum planes) then number values i else 0) v 0 small
+    ∙ sym (cond_below v (sum planes) (number values v) 0 within)
 written_value frame position stage op values v w small within = cc
 
 -- ---- the Read
-pub read_elements : (elem : PixType) (planes : List ℕ) (palette : Bool) (frame : List ℕ) (position : PixelPosition) → palette ≡ false → are_good Start (Read elem planes palette) ≡ true
-    → length frame ≡ frame_length (Read elem planes palette) position.width position.rows → position.x < position.width → position.row < position.rows → HasElements elem planes frame position
+pub read_elements : (elem : PixType) (planes : List ℕ) (palette : Bool) (frame : List ℕ) (position : PixelPosition) → palette ≡ false
+    → are_good Start (Read elem planes palette) ≡ true
+    → length frame ≡ frame_length (Read elem planes palette) position.width position.rows → position.x < position.width
+    → position.row < position.rows → HasElements elem planes frame position
 read_elements elem planes true frame position plain good size column row = cc
-read_elements elem planes false frame position plain good size column row = has_elements elem planes frame position (record { column = column; row = row; good = good; size = size })
+read_elements elem planes false frame position plain good size column row =
+    has_elements elem planes frame position (record { column = column; row = row; good = good; size = size })
 
-pub read_value : (elem : PixType) (planes : List ℕ) (palette : Bool) (frame : List ℕ) (position : PixelPosition) (values : Values) (v : ℕ) → palette ≡ false → v < 4
+pub read_value : (elem : PixType) (planes : List ℕ) (palette : Bool) (frame : List ℕ) (position : PixelPosition) (values : Values) (v : ℕ)
+    → palette ≡ false → v < 4
     → number (apply frame position Start (Read elem planes palette) values) v ≡ element_of elem planes frame position v
 unfolding apply
 read_value elem planes true frame position values v plain small = cc
 read_value elem planes false frame position values v plain small = four_at (λ i. element_of elem planes frame position i) v 0 small
 
-pub read_length_first : (ops : List Op) (width rows : ℕ) → 0 < length ops → read_length ops width rows ≡ frame_length (op_at ops 0) width rows
+pub read_length_first : (ops : List Op) (width rows : ℕ) → 0 < length ops
+    → read_length ops width rows ≡ frame_length (op_at ops 0) width rows
 read_length_first [] width rows h = absurd (omega (arith, h))
 read_length_first (op ∷ ops) width rows h = refl
 
@@ -181,8 +200,10 @@ first_stage ops some = stage_more ops 0 some ∙ ap (λ s. stage_after s (op_at 
 
 pub first_whole : (ops : List Op) → are_typed Start ops ≡ true → 0 < length ops → is_rational (stage_before ops 1) ≡ false
 first_whole ops typed some =
-    let f : may_follow Start (op_at ops 0) ≡ true = subst (λ s. may_follow s (op_at ops 0) ≡ true) (stage_zero ops) (follows_at ops 0 typed some) in
-    let g : are_good Start (op_at ops 0) ≡ true = subst (λ s. are_good s (op_at ops 0) ≡ true) (stage_zero ops) (good_at ops 0 typed some) in
+    let f : may_follow Start (op_at ops 0) ≡ true =
+    subst (λ s. may_follow s (op_at ops 0) ≡ true) (stage_zero ops) (follows_at ops 0 typed some) in
+    let g : are_good Start (op_at ops 0) ≡ true = subst (λ s. are_good s (op_at ops 0) ≡ true) (stage_zero ops) (good_at ops 0 typed some)
+    in
     ap is_rational (first_stage ops some) ∙ read_whole (op_at ops 0) f g
 
 pub first_follows : (ops : List Op) → are_typed Start ops ≡ true → 0 < length ops → may_follow Start (op_at ops 0) ≡ true
@@ -191,9 +212,11 @@ first_follows ops typed some = subst (λ s. may_follow s (op_at ops 0) ≡ true)
 pub first_good : (ops : List Op) → are_typed Start ops ≡ true → 0 < length ops → are_good Start (op_at ops 0) ≡ true
 first_good ops typed some = subst (λ s. are_good s (op_at ops 0) ≡ true) (stage_zero ops) (good_at ops 0 typed some)
 
-pub first_values : (ops : List Op) (frame : List ℕ) (position : PixelPosition) (i : ℕ) → 0 < length ops → values_before ops frame position 1 i ≡ apply frame (pixel_at position i) Start (op_at ops 0) no_values
+pub first_values : (ops : List Op) (frame : List ℕ) (position : PixelPosition) (i : ℕ) → 0 < length ops
+    → values_before ops frame position 1 i ≡ apply frame (pixel_at position i) Start (op_at ops 0) no_values
 first_values ops frame position i some =
-    values_more ops frame position 0 i some ∙ ap (λ s. apply frame (pixel_at position i) s (op_at ops 0) (values_before ops frame position 0 i)) (stage_zero ops)
+    values_more ops frame position 0 i some ∙ ap (λ s. apply frame (pixel_at position i) s (op_at ops 0)
+    (values_before ops frame position 0 i)) (stage_zero ops)
     ∙ ap (λ x. apply frame (pixel_at position i) Start (op_at ops 0) x) (values_first ops frame position i)
 
 -- ---- the Write
@@ -213,13 +236,15 @@ type_whole (Typed Rat) Rat h w = cc
 type_whole Start elem h w = cc
 type_whole Ended elem h w = cc
 
-pub write_whole : (stage : Stage) (op : Op) → is_write op ≡ true → may_follow stage op ≡ true → are_good stage op ≡ true → is_whole stage ≡ true
+pub write_whole : (stage : Stage) (op : Op) → is_write op ≡ true → may_follow stage op ≡ true → are_good stage op ≡ true
+    → is_whole stage ≡ true
 unfolding may_follow are_good
 write_whole stage (Write elem planes) w f h = type_whole stage elem f (and_parts (is_whole_type elem) (are_counts 4 planes) h).0
 write_whole stage op w f h = cc
 
 pub write_elements : (elem : PixType) (planes frame : List ℕ) (position : PixelPosition) → are_good Start (Write elem planes) ≡ true
-    → length frame ≡ frame_length (Write elem planes) position.width position.rows → position.x < position.width → position.row < position.rows → HasElements elem planes frame position
+    → length frame ≡ frame_length (Write elem planes) position.width position.rows → position.x < position.width
+    → position.row < position.rows → HasElements elem planes frame position
 unfolding are_good frame_length
 write_elements elem planes frame position good size column row =
     let p = and_parts (is_whole_type elem) (are_counts 4 planes) good in
@@ -233,33 +258,44 @@ write_few op w good = cc
 -- ---- the kind of the values
 pub kind_before : (ops : List Op) (frame : List ℕ) (position : PixelPosition) (k i : ℕ) → are_typed Start ops ≡ true → k ≤ length ops
     → are_fractions (values_before ops frame position k i) ≡ is_rational (stage_before ops k)
-kind_before ops frame position zero i typed within = ap are_fractions (values_first ops frame position i) ∙ ap is_rational (sym (stage_zero ops))
+kind_before ops frame position zero i typed within = ap are_fractions (values_first ops frame position i)
+    ∙ ap is_rational (sym (stage_zero ops))
 kind_before ops frame position (suc k) i typed within =
     let below : k < length ops = omega (arith, within) in
     let next : suc k ≡ k + 1 = omega arith in
-    let old : are_fractions (values_before ops frame position k i) ≡ is_rational (stage_before ops k) = kind_before ops frame position k i typed (omega (arith, within)) in
+    let old : are_fractions (values_before ops frame position k i) ≡ is_rational (stage_before ops k) =
+    kind_before ops frame position k i typed (omega (arith, within)) in
     rw next
     (ap are_fractions (values_more ops frame position k i below)
-    ∙ apply_kind frame (pixel_at position i) (stage_before ops k) (op_at ops k) (values_before ops frame position k i) old (follows_at ops k typed below) (good_at ops k typed below)
+    ∙ apply_kind frame (pixel_at position i) (stage_before ops k) (op_at ops k) (values_before ops frame position k i) old
+    (follows_at ops k typed below) (good_at ops k typed below)
     ∙ ap is_rational (sym (stage_more ops k below)))
 
 -- ---- a step between
-pub state_more : {W N : Type 0} (digits : W → ℕ) (value : N → ℤ) (ops : List Op) (forms : List Form) (position : PixelPosition) (k : ℕ) (stage : Stage) (op : Op)
-    (old_values values : List W) (old_numbers numbers : List N) → are_typed Start ops ≡ true → stage ≡ stage_before ops k → op ≡ op_at ops k → k < length ops
+pub state_more : {W N : Type 0} (digits : W → ℕ) (value : N → ℤ) (ops : List Op) (forms : List Form) (position : PixelPosition) (k : ℕ)
+    (stage : Stage) (op : Op)
+    (old_values values : List W) (old_numbers numbers : List N) → are_typed Start ops ≡ true → stage ≡ stage_before ops k → op ≡ op_at ops k
+    → k < length ops
     → Performs digits value stage (form_at forms (k - 1)) op (form_at forms k) position old_values old_numbers values numbers
-    → (frame : List ℕ) (n : ℕ) → n ≤ 64 → IsState digits value (stage_before ops k) (form_at forms (k - 1)) old_values old_numbers n (values_before ops frame position k)
-    → IsState digits value (stage_before ops (k + 1)) (form_at forms (k + 1 - 1)) values numbers n (values_before ops frame position (k + 1))
-state_more digits value ops forms position k stage op old_values values old_numbers numbers typed same_stage same_op within performs frame n most before =
+    → (frame : List ℕ) (n : ℕ) → n ≤ 64 → IsState digits value (stage_before ops k) (form_at forms (k - 1)) old_values old_numbers n
+    (values_before ops frame position k)
+    → IsState digits value (stage_before ops (k + 1)) (form_at forms (k + 1 - 1)) values numbers n
+    (values_before ops frame position (k + 1))
+state_more digits value ops forms position k stage op old_values values old_numbers numbers typed same_stage same_op within performs frame n
+    most before =
     let s : IsState digits value stage (form_at forms (k - 1)) old_values old_numbers n (values_before ops frame position k) =
-    subst (λ t. IsState digits value t (form_at forms (k - 1)) old_values old_numbers n (values_before ops frame position k)) (sym same_stage) before in
+    subst (λ t. IsState digits value t (form_at forms (k - 1)) old_values old_numbers n (values_before ops frame position k))
+    (sym same_stage) before in
     let kinds : (i : ℕ) → are_fractions (values_before ops frame position k i) ≡ is_rational stage =
     λ i. kind_before ops frame position k i typed (omega (arith, within)) ∙ ap is_rational (sym same_stage) in
     let made = performs frame n (values_before ops frame position k) most kinds s in
     let stage_is : stage_after stage op ≡ stage_before ops (k + 1) =
     ap (λ t. stage_after t op) same_stage ∙ ap (λ o. stage_after (stage_before ops k) o) same_op ∙ sym (stage_more ops k within) in
-    let values_are : (i : ℕ) → apply frame (pixel_at position i) stage op (values_before ops frame position k i) ≡ values_before ops frame position (k + 1) i =
+    let values_are : (i : ℕ) → apply frame (pixel_at position i) stage op (values_before ops frame position k i)
+    ≡ values_before ops frame position (k + 1) i =
     λ i. ap (λ t. apply frame (pixel_at position i) t op (values_before ops frame position k i)) same_stage
-    ∙ ap (λ o. apply frame (pixel_at position i) (stage_before ops k) o (values_before ops frame position k i)) same_op ∙ sym (values_more ops frame position k i within) in
+    ∙ ap (λ o. apply frame (pixel_at position i) (stage_before ops k) o (values_before ops frame position k i)) same_op
+    ∙ sym (values_more ops frame position k i within) in
     let form_is : form_at forms k ≡ form_at forms (k + 1 - 1) = ap (form_at forms) (omega arith) in
     let all : IsState digits value (stage_after stage op) (form_at forms k) values numbers n (values_before ops frame position (k + 1)) =
     subst (λ g. IsState digits value (stage_after stage op) (form_at forms k) values numbers n g) (λ j i. values_are i j) made in
@@ -268,25 +304,30 @@ state_more digits value ops forms position k stage op old_values values old_numb
 
 pub bounded_more : {W N : Type 0} (digits : W → ℕ) (value : N → ℤ) (ops : List Op) (forms : List Form) (k : ℕ) (stage : Stage) (op : Op)
     (values : List W) (numbers : List N) → stage ≡ stage_before ops k → op ≡ op_at ops k → k < length ops
-    → IsBounded digits value (stage_after stage op) (form_at forms k) values numbers → IsBounded digits value (stage_before ops (k + 1)) (form_at forms (k + 1 - 1)) values numbers
+    → IsBounded digits value (stage_after stage op) (form_at forms k) values numbers
+    → IsBounded digits value (stage_before ops (k + 1)) (form_at forms (k + 1 - 1)) values numbers
 bounded_more digits value ops forms k stage op values numbers same_stage same_op within bounded =
     let stage_is : stage_after stage op ≡ stage_before ops (k + 1) =
     ap (λ t. stage_after t op) same_stage ∙ ap (λ o. stage_after (stage_before ops k) o) same_op ∙ sym (stage_more ops k within) in
     let form_is : form_at forms k ≡ form_at forms (k + 1 - 1) = ap (form_at forms) (omega arith) in
-    subst (λ f. IsBounded digits value (stage_before ops (k + 1)) f values numbers) form_is (subst (λ t. IsBounded digits value t (form_at forms k) values numbers) stage_is bounded)
+    subst (λ f. IsBounded digits value (stage_before ops (k + 1)) f values numbers) form_is
+    (subst (λ t. IsBounded digits value t (form_at forms k) values numbers) stage_is bounded)
 
 -- ---- a whole block
-pub first_state : {W N : Type 0} (digits : W → ℕ) (value : N → ℤ) (ops : List Op) (form : Form) (frame : List ℕ) (position : PixelPosition) (values : List W) (numbers : List N) (n : ℕ)
+pub first_state : {W N : Type 0} (digits : W → ℕ) (value : N → ℤ) (ops : List Op) (form : Form) (frame : List ℕ) (position : PixelPosition)
+    (values : List W) (numbers : List N) (n : ℕ)
     → are_typed Start ops ≡ true → 0 < length ops → form.count ≤ 4
     → Holds digits values 4 n (λ v i. number (apply frame (pixel_at position i) Start (op_at ops 0) no_values) v)
     → IsState digits value (stage_before ops 1) form values numbers n (values_before ops frame position 1)
 first_state digits value ops form frame position values numbers n typed some few set = record {
-  whole = λ is v i d below within. set v i d (omega (arith, below, few)) within ∙ ap (λ t. number t v) (sym (first_values ops frame position i some));
+  whole = λ is v i d below within. set v i d (omega (arith, below, few)) within
+      ∙ ap (λ t. number t v) (sym (first_values ops frame position i some));
   exact = λ is. absurd (let no : true ≡ false = sym is ∙ first_whole ops typed some in cc);
 }
 
 pub first_bounded : {W N : Type 0} (digits : W → ℕ) (value : N → ℤ) (ops : List Op) (form : Form) (values : List W) (numbers : List N)
-    → are_typed Start ops ≡ true → 0 < length ops → form.count ≤ 4 → AreBelow digits values 4 (2 ^ bits_at (stage_after Start (op_at ops 0)))
+    → are_typed Start ops ≡ true → 0 < length ops → form.count ≤ 4
+    → AreBelow digits values 4 (2 ^ bits_at (stage_after Start (op_at ops 0)))
     → IsBounded digits value (stage_before ops 1) form values numbers
 first_bounded digits value ops form values numbers typed some few low = record {
   small = λ is v i d below within. rw (first_stage ops some) (low v i d (omega (arith, below, few)) within);
@@ -294,7 +335,8 @@ first_bounded digits value ops form values numbers typed some few low = record {
 }
 
 -- what the Write is given
-pub written_run : (ops : List Op) (frame : List ℕ) (position : PixelPosition) (i v : ℕ) → are_typed Start ops ≡ true → ends_with_write ops ≡ true → 0 < length ops → v < sum (planes_of (last_op ops))
+pub written_run : (ops : List Op) (frame : List ℕ) (position : PixelPosition) (i v : ℕ) → are_typed Start ops ≡ true
+    → ends_with_write ops ≡ true → 0 < length ops → v < sum (planes_of (last_op ops))
     → number (values_before ops frame position (length ops - 1) i) v ≡ number (run_from frame (pixel_at position i) Start ops no_values) v
 written_run ops frame position i v typed whole some within =
     let k = length ops - 1 in
@@ -302,21 +344,26 @@ written_run ops frame position i v typed whole some within =
     let w : is_write (op_at ops k) ≡ true = last_writes ops whole in
     let g : are_good Start (op_at ops k) ≡ true = good_write (stage_before ops k) (op_at ops k) w (good_at ops k typed below) in
     let few : v < 4 = omega (arith, within, write_few (op_at ops k) w g) in
-    let all : values_before ops frame position (k + 1) i ≡ run_from frame (pixel_at position i) Start ops no_values = values_all ops frame position (k + 1) i (omega arith) in
+    let all : values_before ops frame position (k + 1) i ≡ run_from frame (pixel_at position i) Start ops no_values =
+    values_all ops frame position (k + 1) i (omega arith) in
     sym (written_value frame (pixel_at position i) (stage_before ops k) (op_at ops k) (values_before ops frame position k i) v w few within)
     ∙ ap (λ t. number t v) (sym (values_more ops frame position k i below) ∙ all)
 
-pub last_good : (ops : List Op) → are_typed Start ops ≡ true → ends_with_write ops ≡ true → 0 < length ops → are_good Start (last_op ops) ≡ true
+pub last_good : (ops : List Op) → are_typed Start ops ≡ true → ends_with_write ops ≡ true → 0 < length ops
+    → are_good Start (last_op ops) ≡ true
 last_good ops typed whole some =
     let k = length ops - 1 in
     good_write (stage_before ops k) (op_at ops k) (last_writes ops whole) (good_at ops k typed (omega arith))
 
-pub last_whole : (ops : List Op) → are_typed Start ops ≡ true → ends_with_write ops ≡ true → 0 < length ops → is_whole (stage_before ops (length ops - 1)) ≡ true
+pub last_whole : (ops : List Op) → are_typed Start ops ≡ true → ends_with_write ops ≡ true → 0 < length ops
+    → is_whole (stage_before ops (length ops - 1)) ≡ true
 last_whole ops typed whole some =
     let k = length ops - 1 in
-    write_whole (stage_before ops k) (op_at ops k) (last_writes ops whole) (follows_at ops k typed (omega arith)) (good_at ops k typed (omega arith))
+    write_whole (stage_before ops k) (op_at ops k) (last_writes ops whole) (follows_at ops k typed (omega arith))
+    (good_at ops k typed (omega arith))
 
-pub last_bits : (ops : List Op) → are_typed Start ops ≡ true → ends_with_write ops ≡ true → 0 < length ops → bits_at (stage_before ops (length ops - 1)) ≡ bits (elem_of (last_op ops))
+pub last_bits : (ops : List Op) → are_typed Start ops ≡ true → ends_with_write ops ≡ true → 0 < length ops
+    → bits_at (stage_before ops (length ops - 1)) ≡ bits (elem_of (last_op ops))
 last_bits ops typed whole some =
     let k = length ops - 1 in write_type (stage_before ops k) (op_at ops k) (last_writes ops whole) (follows_at ops k typed (omega arith))
 
@@ -327,7 +374,8 @@ some_element (x ∷ xs) h = x
 pub run_value : (ops : List Op) (frame : List ℕ) (width rows x row y v : ℕ) → v < 4
     → number (run_from frame (position_at width rows row y x) Start ops no_values) v ≡ slice_index (run ops frame width rows x row y) v
 unfolding run
-run_value ops frame width rows x row y v small = sym (four_at (λ i. number (run_from frame (position_at width rows row y x) Start ops no_values) i) v 0 small)
+run_value ops frame width rows x row y v small =
+    sym (four_at (λ i. number (run_from frame (position_at width rows row y x) Start ops no_values) i) v 0 small)
 
 pub written_few : (ops : List Op) → are_typed Start ops ≡ true → ends_with_write ops ≡ true → sum (planes_of (last_op ops)) ≤ 4
 written_few ops typed whole =

@@ -1,5 +1,6 @@
 -- Operations that make each whole number of one: what a block holds, and its bounds.
-use Rattle.std.proofs.Common.{◌≡◌, ℕ, ◌+◌, ◌*◌, ◌/◌, ◌%◌, ◌^◌, ◌<◌, ◌≤◌, ◌⊎◌, ⊎_elim, true, false, List, ℤ, slice_index, slice_index_or, sym, ap, ◌∙◌, arith, subst}
+use Rattle.std.proofs.Common.{◌≡◌, ℕ, ◌+◌, ◌*◌, ◌/◌, ◌%◌, ◌^◌, ◌<◌, ◌≤◌, ◌⊎◌, ⊎_elim, true, false, List, ℤ, slice_index, slice_index_or}
+use Rattle.std.proofs.Common.{sym, ap, ◌∙◌, arith, subst}
 use Rattle.op_list.specs.declared.types.Stage.{Stage}
 use Rattle.op_list.specs.declared.op.Op.{Op}
 use Rattle.op_list.specs.declared.position.PixelPosition.{PixelPosition}
@@ -15,7 +16,8 @@ use Rattle.kernel_int.specs.Forms.{IsBounded, IsState, Performs}
 
 -- each of the first numbers is made of the old one
 abbrev pub Maps : {W : Type 0} → (W → ℕ) → (ℕ → ℕ) → ℕ → List W → List W → Type 0
-Maps {W} digits makes count old new = (j : ℕ) (d : W) → j < count → digits (slice_index_or new j d) ≡ makes (digits (slice_index_or old j d))
+Maps {W} digits makes count old new = (j : ℕ) (d : W) → j < count
+    → digits (slice_index_or new j d) ≡ makes (digits (slice_index_or old j d))
 
 -- An operation that makes one whole number of one, which has so many bits.
 pub record IsMap (stage : Stage) (op : Op) (makes : ℕ → ℕ) : Type 0 where
@@ -32,14 +34,18 @@ flat_below {W} digits values count limit low j d below =
     let same : 64 * (j / 64) + j % 64 ≡ j = omega arith in
     subst (λ t. digits (slice_index_or values t d) < limit) same (low (j / 64) (j % 64) d (omega (arith, below)) (omega arith))
 
-pub mapped_fits : {W N : Type 0} (digits : W → ℕ) (value : N → ℤ) (bits : ℕ) (stage : Stage) (op : Op) (makes : ℕ → ℕ) (before after : Form) (values : List W) (numbers : List N)
-    → IsMap stage op makes → after.count ≤ before.count → 2 ^ bits_at (stage_after stage op) ≤ 2 ^ bits → IsBounded digits value stage before values numbers
+pub mapped_fits : {W N : Type 0} (digits : W → ℕ) (value : N → ℤ) (bits : ℕ) (stage : Stage) (op : Op) (makes : ℕ → ℕ) (before after : Form)
+    (values : List W) (numbers : List N)
+    → IsMap stage op makes → after.count ≤ before.count → 2 ^ bits_at (stage_after stage op) ≤ 2 ^ bits
+    → IsBounded digits value stage before values numbers
     → (j : ℕ) (d : W) → j < 64 * after.count → makes (digits (slice_index_or values j d)) < 2 ^ bits
 mapped_fits {W} {N} digits value bits stage op makes before after values numbers is there stored bounded j d below =
-    let small = is.small (digits (slice_index_or values j d)) (flat_below digits values before.count (2 ^ bits_at stage) (bounded.small is.before) j d (omega (arith, below, there))) in
+    let small = is.small (digits (slice_index_or values j d))
+    (flat_below digits values before.count (2 ^ bits_at stage) (bounded.small is.before) j d (omega (arith, below, there))) in
     omega (arith, small, stored)
 
-pub mapped_bounded : {W N : Type 0} (digits : W → ℕ) (value : N → ℤ) (stage : Stage) (op : Op) (makes : ℕ → ℕ) (before after : Form) (old new : List W) (numbers : List N)
+pub mapped_bounded : {W N : Type 0} (digits : W → ℕ) (value : N → ℤ) (stage : Stage) (op : Op) (makes : ℕ → ℕ) (before after : Form)
+    (old new : List W) (numbers : List N)
     → IsMap stage op makes → after.count ≤ before.count → Maps digits makes (64 * after.count) old new
     → IsBounded digits value stage before old numbers → IsBounded digits value (stage_after stage op) after new numbers
 mapped_bounded {W} {N} digits value stage op makes before after old new numbers is there maps bounded = record {
@@ -49,12 +55,16 @@ mapped_bounded {W} {N} digits value stage op makes before after old new numbers 
   bound = λ rational. absurd (let no : true ≡ false = sym rational ∙ whole_not_rational (stage_after stage op) is.after in cc);
 }
 
-pub mapped_performs : {W N : Type 0} (digits : W → ℕ) (value : N → ℤ) (stage : Stage) (op : Op) (makes : ℕ → ℕ) (before after : Form) (position : PixelPosition) (old new : List W) (numbers : List N)
+pub mapped_performs : {W N : Type 0} (digits : W → ℕ) (value : N → ℤ) (stage : Stage) (op : Op) (makes : ℕ → ℕ) (before after : Form)
+    (position : PixelPosition) (old new : List W) (numbers : List N)
     → IsMap stage op makes → after.count ≤ 4 → after.count ≤ before.count → Maps digits makes (64 * after.count) old new
     → Performs digits value stage before op after position old numbers new numbers
-mapped_performs {W} {N} digits value stage op makes before after position old new numbers is few there maps frame n given most kinds state = record {
-  whole = λ whole v i d below within.
-      maps (64 * v + i) d (omega (arith, below, within, most)) ∙ ap makes (state.whole is.before v i d (omega (arith, below, there)) within)
-      ∙ sym (is.number frame (pixel_at position i) (given i) v (omega (arith, below, few)) (kinds i ∙ whole_not_rational stage is.before));
-  exact = λ rational. absurd (let no : true ≡ false = sym rational ∙ whole_not_rational (stage_after stage op) is.after in cc);
-}
+mapped_performs {W} {N} digits value stage op makes before after position old new numbers is few there maps frame n given most kinds state =
+    record {
+      whole = λ whole v i d below within.
+          maps (64 * v + i) d (omega (arith, below, within, most))
+          ∙ ap makes (state.whole is.before v i d (omega (arith, below, there)) within)
+          ∙ sym (is.number frame (pixel_at position i) (given i) v (omega (arith, below, few))
+          (kinds i ∙ whole_not_rational stage is.before));
+      exact = λ rational. absurd (let no : true ≡ false = sym rational ∙ whole_not_rational (stage_after stage op) is.after in cc);
+    }

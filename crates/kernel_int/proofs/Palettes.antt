@@ -1,5 +1,6 @@
 -- Colours of a palette: what a block holds.
-use Rattle.std.proofs.Common.{◌≡◌, ℕ, zero, suc, ◌+◌, ◌*◌, ◌^◌, ◌<◌, ◌≤◌, ◌⊎◌, inl, true, false, Bool, List, slice_index, slice_index_or, length, refl, sym, ap, ◌∙◌, arith, subst, below_more}
+use Rattle.std.proofs.Common.{◌≡◌, ℕ, zero, suc, ◌+◌, ◌*◌, ◌^◌, ◌<◌, ◌≤◌, ◌⊎◌, inl, true, false, Bool, List, slice_index, slice_index_or}
+use Rattle.std.proofs.Common.{length, refl, sym, ap, ◌∙◌, arith, subst, below_more}
 use Rattle.op_list.specs.declared.types.PixType.{PixType}
 use Rattle.op_list.specs.declared.types.PixType.TheVariants.{U8, U16, U32, Rat}
 use Rattle.op_list.specs.declared.types.Stage.TheVariants.{Start}
@@ -36,7 +37,8 @@ below_next {W} number before after v limit here kept low u i d below within =
     (here i d within) u below
 
 pub colour_at : (frame : List ℕ) (position : PixelPosition) (i v : ℕ) → v < 4
-    → slice_index (palette_colours frame (pixel_at position i)) v ≡ colour_in frame (pixel_count position) (pixel_number position + i) (colour_byte v)
+    → slice_index (palette_colours frame (pixel_at position i)) v
+    ≡ colour_in frame (pixel_count position) (pixel_number position + i) (colour_byte v)
 unfolding palette_colours
 colour_at frame position i v small =
     let same : pixel_number (pixel_at position i) ≡ pixel_number position + i = omega arith in
@@ -44,12 +46,14 @@ colour_at frame position i v small =
     (ap (λ k. slice_index (colours frame (pixel_count position + 4 * slice_index frame k)) v) same)
   where
     entry : (v e : ℕ) → v < 4
-        → slice_index (colours frame (pixel_count position + 4 * slice_index frame (pixel_number (pixel_at position i)))) v ≡ slice_index (colours frame (pixel_count position + e)) v
+        → slice_index (colours frame (pixel_count position + 4 * slice_index frame (pixel_number (pixel_at position i)))) v
+        ≡ slice_index (colours frame (pixel_count position + e)) v
         → slice_index (colours frame (pixel_count position + 4 * slice_index frame (pixel_number (pixel_at position i)))) v
         ≡ slice_index frame (pixel_count position + e + colour_byte v)
     entry zero e h same = same
     entry (suc zero) e h same = same
-    entry (suc (suc zero)) e h same = let none : pixel_count position + e ≡ pixel_count position + e + 0 = omega arith in same ∙ ap (slice_index frame) none
+    entry (suc (suc zero)) e h same = let none : pixel_count position + e ≡ pixel_count position + e + 0 = omega arith in same
+        ∙ ap (slice_index frame) none
     entry (suc (suc (suc zero))) e h same = same
     entry (suc (suc (suc (suc v)))) e h same = absurd (omega (arith, h))
 
@@ -66,16 +70,21 @@ byte_bits U16 h = cc
 byte_bits U32 h = cc
 byte_bits Rat h = cc
 
-pub palette_bits : (elem : PixType) (planes : List ℕ) (palette : Bool) → palette ≡ true → are_good Start (Read elem planes palette) ≡ true → bits elem ≡ 8
+pub palette_bits : (elem : PixType) (planes : List ℕ) (palette : Bool) → palette ≡ true → are_good Start (Read elem planes palette) ≡ true
+    → bits elem ≡ 8
 palette_bits elem planes true is good = byte_bits elem (palette_bytes elem planes good)
 palette_bits elem planes false is good = cc
 
-pub palette_frame : (elem : PixType) (planes : List ℕ) (palette : Bool) (frame : List ℕ) (position : PixelPosition) → palette ≡ true → are_good Start (Read elem planes palette) ≡ true
-    → length frame ≡ frame_length (Read elem planes palette) position.width position.rows → position.x < position.width → position.row < position.rows → HasPalette frame position
-palette_frame elem planes true frame position is good size column row = has_palette elem planes frame position (record { column = column; row = row; good = good; size = size })
+pub palette_frame : (elem : PixType) (planes : List ℕ) (palette : Bool) (frame : List ℕ) (position : PixelPosition) → palette ≡ true
+    → are_good Start (Read elem planes palette) ≡ true
+    → length frame ≡ frame_length (Read elem planes palette) position.width position.rows → position.x < position.width
+    → position.row < position.rows → HasPalette frame position
+palette_frame elem planes true frame position is good size column row =
+    has_palette elem planes frame position (record { column = column; row = row; good = good; size = size })
 palette_frame elem planes false frame position is good size column row = cc
 
-pub palette_value : (elem : PixType) (planes : List ℕ) (palette : Bool) (frame : List ℕ) (position : PixelPosition) (values : Values) (v : ℕ) → palette ≡ true
+pub palette_value : (elem : PixType) (planes : List ℕ) (palette : Bool) (frame : List ℕ) (position : PixelPosition) (values : Values)
+    (v : ℕ) → palette ≡ true
     → number (apply frame position Start (Read elem planes palette) values) v ≡ slice_index (palette_colours frame position) v
 unfolding apply
 palette_value elem planes true frame position values v is = refl

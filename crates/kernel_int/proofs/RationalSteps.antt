@@ -1,5 +1,6 @@
 -- The steps between fractions: what a block holds, and its bounds.
-use Rattle.std.proofs.Common.{◌≡◌, ℕ, ◌+◌, ◌*◌, ◌/◌, ◌%◌, ◌^◌, ◌<◌, ◌≤◌, Bool, true, List, ℤ, pos, length, slice_index_or, FitsSigned, ◌∙◌, arith, subst}
+use Rattle.std.proofs.Common.{◌≡◌, ℕ, ◌+◌, ◌*◌, ◌/◌, ◌%◌, ◌^◌, ◌<◌, ◌≤◌, Bool, true, List, ℤ, pos, length, slice_index_or, FitsSigned, ◌∙◌}
+use Rattle.std.proofs.Common.{arith, subst}
 use Rattle.std.specs.Int.{Width}
 use Rattle.frac_math.specs.Fraction.{ℚ, nat}
 use Rattle.op_list.specs.declared.types.Stage.{Stage}
@@ -21,19 +22,24 @@ use Rattle.kernel_int.proofs.Rationals.{row_stands, widened_stands}
 
 -- ---- whole numbers become fractions
 abbrev pub Widens : {W N : Type 0} → (W → ℕ) → (N → ℤ) → ℕ → List W → List N → Type 0
-Widens {W} {N} digits value n values numbers = (j : ℕ) (d : W) (e : N) → j < n → value (slice_index_or numbers j e) ≡ pos (digits (slice_index_or values j d))
+Widens {W} {N} digits value n values numbers = (j : ℕ) (d : W) (e : N) → j < n
+    → value (slice_index_or numbers j e) ≡ pos (digits (slice_index_or values j d))
 
-pub widened_fit : {W : Type 0} (digits : W → ℕ) (width : Width) (stage : Stage) (before after : Form) (values : List W) → AreWidened width stage before after
-    → AreBelow digits values before.count (2 ^ bits_at stage) → (j : ℕ) (d : W) → j < 64 * after.count → FitsSigned width (pos (digits (slice_index_or values j d)))
+pub widened_fit : {W : Type 0} (digits : W → ℕ) (width : Width) (stage : Stage) (before after : Form) (values : List W)
+    → AreWidened width stage before after
+    → AreBelow digits values before.count (2 ^ bits_at stage) → (j : ℕ) (d : W) → j < 64 * after.count
+    → FitsSigned width (pos (digits (slice_index_or values j d)))
 widened_fit digits width stage before after values is low j d below =
     let v = j / 64 in
     let i = j % 64 in
     let same : 64 * v + i ≡ j = omega arith in
     let within : v < after.count = omega arith in
     let one = is.1 v within in
-    subst (λ t. FitsSigned width (pos (digits (slice_index_or values t d)))) same (one.1.fits (digits (slice_index_or values (64 * v + i) d)) (low v i d one.0 (omega arith)))
+    subst (λ t. FitsSigned width (pos (digits (slice_index_or values t d)))) same
+    (one.1.fits (digits (slice_index_or values (64 * v + i) d)) (low v i d one.0 (omega arith)))
 
-pub widened_bounded : {W N : Type 0} (digits : W → ℕ) (value : N → ℤ) (width : Width) (stage : Stage) (expand : Bool) (before after : Form) (values : List W) (old new : List N)
+pub widened_bounded : {W N : Type 0} (digits : W → ℕ) (value : N → ℤ) (width : Width) (stage : Stage) (expand : Bool) (before after : Form)
+    (values : List W) (old new : List N)
     → AreWidened width stage before after → after.count ≤ 4 → length values ≡ 256 → Widens digits value (64 * after.count) values new
     → IsBounded digits value stage before values old → IsBounded digits value (stage_after stage (Convert Rat expand)) after values new
 unfolding stage_after
@@ -46,28 +52,32 @@ widened_bounded {W} {N} digits value width stage expand before after values old 
       (one.1.bounds (digits (slice_index_or values (64 * v + i) some)) (bounded.small is.0 v i some one.0 within));
 }
 
-pub widened_performs : {W N : Type 0} (digits : W → ℕ) (value : N → ℤ) (width : Width) (stage : Stage) (expand : Bool) (before after : Form) (position : PixelPosition) (values : List W) (old new : List N)
+pub widened_performs : {W N : Type 0} (digits : W → ℕ) (value : N → ℤ) (width : Width) (stage : Stage) (expand : Bool) (before after : Form)
+    (position : PixelPosition) (values : List W) (old new : List N)
     → AreWidened width stage before after → after.count ≤ 4 → length values ≡ 256 → Widens digits value (64 * after.count) values new
     → Performs digits value stage before (Convert Rat expand) after position values old values new
 unfolding stage_after apply
-widened_performs {W} {N} digits value width stage expand before after position values old new is few size widens frame n given most kinds state = record {
-  whole = λ whole. cc;
-  exact = λ rational v i d below within.
-      let one = is.1 v below in
-      let some : W = some_element values (omega (arith, size)) in
-      let lane_below : 64 * v + i < 64 * after.count = omega (arith, below, within, most) in
-      rw (widens (64 * v + i) some d lane_below, state.whole is.0 v i some one.0 within, one.1.one)
-      (widened_stands (given i) expand v (omega (arith, below, few)) (kinds i ∙ whole_not_rational stage is.0));
-}
+widened_performs {W} {N} digits value width stage expand before after position values old new is few size widens frame n given most kinds
+    state = record {
+      whole = λ whole. cc;
+      exact = λ rational v i d below within.
+          let one = is.1 v below in
+          let some : W = some_element values (omega (arith, size)) in
+          let lane_below : 64 * v + i < 64 * after.count = omega (arith, below, within, most) in
+          rw (widens (64 * v + i) some d lane_below, state.whole is.0 v i some one.0 within, one.1.one)
+          (widened_stands (given i) expand v (omega (arith, below, few)) (kinds i ∙ whole_not_rational stage is.0));
+    }
 
 -- ---- rows of factors
 abbrev pub AreRows : Width → Form → List (List ℚ) → Form → Type 0
 AreRows width before rows after = (v : ℕ) → v < after.count → IsRow width before (row_of rows v) (factors_at after v) (extent_at after v)
 
 abbrev pub Sums : {N : Type 0} → (N → ℤ) → Form → List N → List N → Type 0
-Sums {N} value after old new = (v i : ℕ) (d : N) → v < after.count → i < 64 → value (slice_index_or new (64 * v + i) d) ≡ row_sum (factors_at after v) (lane_numbers value old i d) 4
+Sums {N} value after old new = (v i : ℕ) (d : N) → v < after.count → i < 64
+    → value (slice_index_or new (64 * v + i) d) ≡ row_sum (factors_at after v) (lane_numbers value old i d) 4
 
-pub rows_bounded : {W N : Type 0} (digits : W → ℕ) (value : N → ℤ) (width : Width) (stage : Stage) (rows : List (List ℚ)) (before after : Form) (values : List W) (old new : List N)
+pub rows_bounded : {W N : Type 0} (digits : W → ℕ) (value : N → ℤ) (width : Width) (stage : Stage) (rows : List (List ℚ))
+    (before after : Form) (values : List W) (old new : List N)
     → is_rational stage ≡ true → AreRows width before rows after → Sums value after old new
     → IsBounded digits value stage before values old → IsBounded digits value (stage_after stage (Linear rows)) after values new
 unfolding stage_after
@@ -77,17 +87,25 @@ rows_bounded {W} {N} digits value width stage rows before after values old new k
       rw (sums v i d below within) ((is v below).inside (lane_numbers value old i d) (λ j some. bounded.bound kind j i d some within));
 }
 
-pub rows_perform : {W N : Type 0} (digits : W → ℕ) (value : N → ℤ) (width : Width) (stage : Stage) (rows : List (List ℚ)) (before after : Form) (position : PixelPosition) (values : List W) (old new : List N)
-    → is_rational stage ≡ true → after.count ≤ 4 → AreRows width before rows after → Sums value after old new → IsBounded digits value stage before values old
+pub rows_perform : {W N : Type 0} (digits : W → ℕ) (value : N → ℤ) (width : Width) (stage : Stage) (rows : List (List ℚ))
+    (before after : Form) (position : PixelPosition) (values : List W) (old new : List N)
+    → is_rational stage ≡ true → after.count ≤ 4 → AreRows width before rows after → Sums value after old new
+    → IsBounded digits value stage before values old
     → Performs digits value stage before (Linear rows) after position values old values new
 unfolding stage_after apply
-rows_perform {W} {N} digits value width stage rows before after position values old new kind few is sums bounded frame n given most kinds state = record {
-  whole = λ whole. absurd (rational_not_whole stage kind whole);
-  exact = λ rational v i d below within.
-      rw (four_at (λ u. row_value (row_of rows u) (given i)) v (nat 0) (omega (arith, below, few)), sums v i d below (omega (arith, within, most)))
-      (row_stands width before (row_of rows v) (factors_at after v) (extent_at after v) (given i) (lane_numbers value old i d) (is v below) (λ j some. state.exact kind j i d some within)
-      (λ j some. bounded.bound kind j i d some (omega (arith, within, most))));
-}
+rows_perform {W} {N} digits value width stage rows before after position values old new kind few is sums bounded frame n given most kinds
+    state = record {
+      whole = λ whole. absurd (rational_not_whole stage kind whole);
+      exact = λ rational v i d below within.
+          rw (
+            four_at (λ u. row_value (row_of rows u) (given i)) v (nat 0) (omega (arith, below, few)),
+            sums v i d below (omega (arith, within, most)),
+          )
+          (row_stands width before (row_of rows v) (factors_at after v) (extent_at after v) (given i) (lane_numbers value old i d)
+          (is v below)
+          (λ j some. state.exact kind j i d some within)
+          (λ j some. bounded.bound kind j i d some (omega (arith, within, most))));
+    }
 
 pub linear_rational : (stage : Stage) (rows : List (List ℚ)) → may_follow stage (Linear rows) ≡ true → is_rational stage ≡ true
 unfolding may_follow

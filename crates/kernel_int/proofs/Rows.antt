@@ -6,7 +6,8 @@ use Rattle.op_list.specs.declared.position.PixelPosition.{PixelPosition}
 use Rattle.kernel_int.specs.Block.{position_at, IsOutside, IsOtherRow}
 
 -- another row has none of the pixels of a block
-pub other_row_outside : (width rows row y start n : ℕ) (other : PixelPosition) → start + n ≤ width → IsOtherRow width rows row other → IsOutside (position_at width rows row y start) n other
+pub other_row_outside : (width rows row y start n : ℕ) (other : PixelPosition) → start + n ≤ width → IsOtherRow width rows row other
+    → IsOutside (position_at width rows row y start) n other
 other_row_outside width rows row y start n other inside is = record {
   width = is.width;
   rows = is.rows;
@@ -25,7 +26,8 @@ other_row_outside width rows row y start n other inside is = record {
 }
 
 -- nor has an earlier block
-pub earlier_outside : (width rows row y start n x : ℕ) → row < rows → x < width → x < start → IsOutside (position_at width rows row y start) n (position_at width rows row y x)
+pub earlier_outside : (width rows row y start n x : ℕ) → row < rows → x < width → x < start
+    → IsOutside (position_at width rows row y start) n (position_at width rows row y x)
 earlier_outside width rows row y start n x inside column before = record {
   width = refl;
   rows = refl;

@@ -29,35 +29,47 @@ AreMoved from before after = (v : ℕ) → v < after.count → IsMoved before (s
 
 -- value v of the new block is value from[v] of the old one
 abbrev pub Moves : {T : Type 0} → List ℕ → ℕ → List T → List T → Type 0
-Moves {T} from count old new = (v i : ℕ) (d : T) → v < count → i < 64 → slice_index_or new (64 * v + i) d ≡ slice_index_or old (64 * slice_index from v + i) d
+Moves {T} from count old new = (v i : ℕ) (d : T) → v < count → i < 64
+    → slice_index_or new (64 * v + i) d ≡ slice_index_or old (64 * slice_index from v + i) d
 
-pub swizzle_numbers : {W N : Type 0} (digits : W → ℕ) (value : N → ℤ) (stage : Stage) (from : List ℕ) (before after : Form) (old new : List W) (numbers : List N) (position : PixelPosition)
+pub swizzle_numbers : {W N : Type 0} (digits : W → ℕ) (value : N → ℤ) (stage : Stage) (from : List ℕ) (before after : Form)
+    (old new : List W) (numbers : List N) (position : PixelPosition)
     → is_rational stage ≡ false → after.count ≤ 4 → AreMoved from before after → Moves from after.count old new
-    → (frame : List ℕ) (n : ℕ) (given : ℕ → Values) → n ≤ 64 → ((i : ℕ) → are_fractions (given i) ≡ is_rational stage) → IsState digits value stage before old numbers n given
-    → IsState digits value (stage_after stage (Swizzle from)) after new numbers n (λ i. apply frame (pixel_at position i) stage (Swizzle from) (given i))
+    → (frame : List ℕ) (n : ℕ) (given : ℕ → Values) → n ≤ 64 → ((i : ℕ) → are_fractions (given i) ≡ is_rational stage)
+    → IsState digits value stage before old numbers n given
+    → IsState digits value (stage_after stage (Swizzle from)) after new numbers n
+    (λ i. apply frame (pixel_at position i) stage (Swizzle from) (given i))
 unfolding apply stage_after
-swizzle_numbers {W} {N} digits value stage from before after old new numbers position kind few moved moves frame n given most kinds state = record {
-  whole = λ is v i d below within.
-      ap digits (moves v i d below (omega (arith, within, most))) ∙ state.whole is (slice_index from v) i d (moved v below).there within
-      ∙ sym (swizzled_number from (given i) v (omega (arith, below, few)));
-  exact = λ is. absurd (let no : true ≡ false = sym is ∙ kind in cc);
-}
+swizzle_numbers {W} {N} digits value stage from before after old new numbers position kind few moved moves frame n given most kinds state =
+    record {
+      whole = λ is v i d below within.
+          ap digits (moves v i d below (omega (arith, within, most))) ∙ state.whole is (slice_index from v) i d (moved v below).there within
+          ∙ sym (swizzled_number from (given i) v (omega (arith, below, few)));
+      exact = λ is. absurd (let no : true ≡ false = sym is ∙ kind in cc);
+    }
 
-pub swizzle_fractions : {W N : Type 0} (digits : W → ℕ) (value : N → ℤ) (stage : Stage) (from : List ℕ) (before after : Form) (values : List W) (old new : List N) (position : PixelPosition)
+pub swizzle_fractions : {W N : Type 0} (digits : W → ℕ) (value : N → ℤ) (stage : Stage) (from : List ℕ) (before after : Form)
+    (values : List W) (old new : List N) (position : PixelPosition)
     → is_rational stage ≡ true → after.count ≤ 4 → AreMoved from before after → Moves from after.count old new
-    → (frame : List ℕ) (n : ℕ) (given : ℕ → Values) → n ≤ 64 → ((i : ℕ) → are_fractions (given i) ≡ is_rational stage) → IsState digits value stage before values old n given
-    → IsState digits value (stage_after stage (Swizzle from)) after values new n (λ i. apply frame (pixel_at position i) stage (Swizzle from) (given i))
+    → (frame : List ℕ) (n : ℕ) (given : ℕ → Values) → n ≤ 64 → ((i : ℕ) → are_fractions (given i) ≡ is_rational stage)
+    → IsState digits value stage before values old n given
+    → IsState digits value (stage_after stage (Swizzle from)) after values new n
+    (λ i. apply frame (pixel_at position i) stage (Swizzle from) (given i))
 unfolding apply stage_after
-swizzle_fractions {W} {N} digits value stage from before after values old new position kind few moved moves frame n given most kinds state = record {
-  whole = λ is. absurd (rational_not_whole stage kind is);
-  exact = λ is v i d below within.
-      let m : IsMoved before (slice_index from v) after v = moved v below in
-      let old_stands : Stands (fraction (given i) (slice_index from v)) (value (slice_index_or old (64 * slice_index from v + i) d)) (denominator before (slice_index from v)) =
-      state.exact is (slice_index from v) i d m.there within in
-      rw (swizzled_fraction from (given i) v (omega (arith, below, few)), moves v i d below (omega (arith, within, most)), m.same) old_stands;
-}
+swizzle_fractions {W} {N} digits value stage from before after values old new position kind few moved moves frame n given most kinds state =
+    record {
+      whole = λ is. absurd (rational_not_whole stage kind is);
+      exact = λ is v i d below within.
+          let m : IsMoved before (slice_index from v) after v = moved v below in
+          let old_stands : Stands (fraction (given i) (slice_index from v)) (value (slice_index_or old (64 * slice_index from v + i) d))
+          (denominator before (slice_index from v)) =
+          state.exact is (slice_index from v) i d m.there within in
+          rw (swizzled_fraction from (given i) v (omega (arith, below, few)), moves v i d below (omega (arith, within, most)), m.same)
+          old_stands;
+    }
 
-pub swizzle_numbers_bounded : {W N : Type 0} (digits : W → ℕ) (value : N → ℤ) (stage : Stage) (from : List ℕ) (before after : Form) (old new : List W) (numbers : List N)
+pub swizzle_numbers_bounded : {W N : Type 0} (digits : W → ℕ) (value : N → ℤ) (stage : Stage) (from : List ℕ) (before after : Form)
+    (old new : List W) (numbers : List N)
     → is_rational stage ≡ false → AreMoved from before after → Moves from after.count old new
     → IsBounded digits value stage before old numbers → IsBounded digits value (stage_after stage (Swizzle from)) after new numbers
 unfolding stage_after
@@ -66,7 +78,8 @@ swizzle_numbers_bounded {W} {N} digits value stage from before after old new num
   bound = λ is. absurd (let no : true ≡ false = sym is ∙ kind in cc);
 }
 
-pub swizzle_fractions_bounded : {W N : Type 0} (digits : W → ℕ) (value : N → ℤ) (stage : Stage) (from : List ℕ) (before after : Form) (values : List W) (old new : List N)
+pub swizzle_fractions_bounded : {W N : Type 0} (digits : W → ℕ) (value : N → ℤ) (stage : Stage) (from : List ℕ) (before after : Form)
+    (values : List W) (old new : List N)
     → is_rational stage ≡ true → AreMoved from before after → Moves from after.count old new
     → IsBounded digits value stage before values old → IsBounded digits value (stage_after stage (Swizzle from)) after values new
 unfolding stage_after

@@ -1,5 +1,6 @@
 -- Three bytes of each pixel that stand together.
-use Rattle.std.proofs.Common.{◌≡◌, ℕ, ◌+◌, ◌-◌, ◌*◌, ◌/◌, ◌%◌, ◌<◌, ◌≤◌, ◌⊎◌, inl, inr, ⊎_elim, List, [], ◌∷◌, length, get_or, slice_index, sym, ap, ◌∙◌, arith, subst}
+use Rattle.std.proofs.Common.{◌≡◌, ℕ, ◌+◌, ◌-◌, ◌*◌, ◌/◌, ◌%◌, ◌<◌, ◌≤◌, ◌⊎◌, inl, inr, ⊎_elim, List, [], ◌∷◌, length, get_or, slice_index}
+use Rattle.std.proofs.Common.{sym, ap, ◌∙◌, arith, subst}
 use Rattle.std.specs.Prelude.{sum}
 use Rattle.std.proofs.lemmas.Bool.{cases_lt}
 use Rattle.op_list.specs.declared.types.PixType.TheVariants.{U8}
@@ -33,25 +34,33 @@ three_index pixels pixel i v (n ∷ planes) h small =
 
 -- value v of pixel i is this byte
 pub three_element : (planes frame : List ℕ) (position : PixelPosition) (i v : ℕ) → get_or planes 0 0 ≡ 3 → v < 3
-    → element_of U8 planes frame (pixel_at position i) v ≡ slice_index frame (element_in (pixel_count position) (pixel_number position) 0 planes 0 + (3 * i + v))
+    → element_of U8 planes frame (pixel_at position i) v
+    ≡ slice_index frame (element_in (pixel_count position) (pixel_number position) 0 planes 0 + (3 * i + v))
 three_element planes frame position i v three small =
     let within : v < sum planes = omega (arith, small, three_few planes three) in
-    let index : element_in (pixel_count (pixel_at position i)) (pixel_number (pixel_at position i)) 0 planes v ≡ element_in (pixel_count position) (pixel_number position) 0 planes 0 + (3 * i + v) =
-    ap (λ t. element_in (pixel_count position) t 0 planes v) (lane_number position i) ∙ three_index (pixel_count position) (pixel_number position) i v planes three small in
+    let index : element_in (pixel_count (pixel_at position i)) (pixel_number (pixel_at position i)) 0 planes v
+    ≡ element_in (pixel_count position) (pixel_number position) 0 planes 0 + (3 * i + v) =
+    ap (λ t. element_in (pixel_count position) t 0 planes v) (lane_number position i)
+    ∙ three_index (pixel_count position) (pixel_number position) i v planes three small in
     element_of-is U8 planes frame (pixel_at position i) v within ∙ ap (element U8 frame) index ∙ byte frame _
 
 -- the bytes of a whole block are in the frame
-pub three_ends : (planes frame : List ℕ) (position : PixelPosition) → get_or planes 0 0 ≡ 3 → HasElements U8 planes frame position → position.x + 64 ≤ position.width
+pub three_ends : (planes frame : List ℕ) (position : PixelPosition) → get_or planes 0 0 ≡ 3 → HasElements U8 planes frame position
+    → position.x + 64 ≤ position.width
     → element_in (pixel_count position) (pixel_number position) 0 planes 0 + 192 ≤ length frame
 three_ends planes frame position three h inside =
     let within : 2 < sum planes = omega (arith, three_few planes three) in
-    let ends = index_ends U8 planes frame (pixel_at position 63) 2 (lane_elements U8 planes frame position 63 64 h (omega arith) inside) within in
-    let index : element_in (pixel_count (pixel_at position 63)) (pixel_number (pixel_at position 63)) 0 planes 2 ≡ element_in (pixel_count position) (pixel_number position) 0 planes 0 + 191 =
-    ap (λ t. element_in (pixel_count position) t 0 planes 2) (lane_number position 63) ∙ three_index (pixel_count position) (pixel_number position) 63 2 planes three (omega arith) in
+    let ends = index_ends U8 planes frame (pixel_at position 63) 2
+    (lane_elements U8 planes frame position 63 64 h (omega arith) inside) within in
+    let index : element_in (pixel_count (pixel_at position 63)) (pixel_number (pixel_at position 63)) 0 planes 2
+    ≡ element_in (pixel_count position) (pixel_number position) 0 planes 0 + 191 =
+    ap (λ t. element_in (pixel_count position) t 0 planes 2) (lane_number position 63)
+    ∙ three_index (pixel_count position) (pixel_number position) 63 2 planes three (omega arith) in
     omega (arith, ends, index)
 
 -- an element of another pixel is none of these bytes
-pub three_apart : (planes : List ℕ) (position other : PixelPosition) (u : ℕ) → get_or planes 0 0 ≡ 3 → position.row < position.rows → position.x + 64 ≤ position.width → IsOutside position 64 other → u < sum planes
+pub three_apart : (planes : List ℕ) (position other : PixelPosition) (u : ℕ) → get_or planes 0 0 ≡ 3 → position.row < position.rows
+    → position.x + 64 ≤ position.width → IsOutside position 64 other → u < sum planes
     → let index = element_in (pixel_count other) (pixel_number other) 0 planes u in
     let start = element_in (pixel_count position) (pixel_number position) 0 planes 0 in
     (index < start) ⊎ (start + 192 ≤ index)
@@ -72,12 +81,15 @@ three_apart planes position other u three row inside is here =
     let i_small : i < 64 = omega arith in
     let v_small : v < 3 = omega arith in
     let whole : 3 * i + v ≡ k = omega arith in
-    let lane_below : pixel_number (pixel_at position i) < pixels = number_below (pixel_at position i) (omega (arith, i_small, inside)) row in
+    let lane_below : pixel_number (pixel_at position i) < pixels = number_below (pixel_at position i) (omega (arith, i_small, inside)) row
+    in
     let e : element_in pixels (pixel_number other) 0 planes u ≡ element_in pixels (pixel_number (pixel_at position i)) 0 planes v =
     ap (λ t. element_in t (pixel_number other) 0 planes u) (sym count) ∙ (let back : index ≡ start + (3 * i + v) = omega arith in back)
-    ∙ sym (ap (λ t. element_in pixels t 0 planes v) (lane_number position i) ∙ three_index pixels (pixel_number position) i v planes three v_small) in
+    ∙ sym (ap (λ t. element_in pixels t 0 planes v) (lane_number position i)
+    ∙ three_index pixels (pixel_number position) i v planes three v_small) in
     let both : (pixel_number other ≡ pixel_number (pixel_at position i)) × (u ≡ v) =
-    same_index pixels (pixel_number other) (pixel_number (pixel_at position i)) 0 planes u v below lane_below here (omega (arith, v_small, three_few planes three)) e in
+    same_index pixels (pixel_number other) (pixel_number (pixel_at position i)) 0 planes u v below lane_below here
+    (omega (arith, v_small, three_few planes three)) e in
     absurd (⊎_elim
     (λ (lt : pixel_number other < pixel_number position). omega (arith, lt, both.0, lane_number position i))
     (λ (ge : pixel_number position + 64 ≤ pixel_number other). omega (arith, ge, both.0, lane_number position i, i_small))
@@ -86,8 +98,10 @@ three_apart planes position other u three row inside is here =
     (cases_lt index (start + 192)))
     (cases_lt index start)
 
-pub three_kept : (planes old new : List ℕ) (position other : PixelPosition) (u : ℕ) → get_or planes 0 0 ≡ 3 → position.row < position.rows → position.x + 64 ≤ position.width → IsOutside position 64 other
-    → ((k : ℕ) → (k < element_in (pixel_count position) (pixel_number position) 0 planes 0) ⊎ (element_in (pixel_count position) (pixel_number position) 0 planes 0 + 192 ≤ k) → slice_index new k ≡ slice_index old k)
+pub three_kept : (planes old new : List ℕ) (position other : PixelPosition) (u : ℕ) → get_or planes 0 0 ≡ 3 → position.row < position.rows
+    → position.x + 64 ≤ position.width → IsOutside position 64 other
+    → ((k : ℕ) → (k < element_in (pixel_count position) (pixel_number position) 0 planes 0)
+    ⊎ (element_in (pixel_count position) (pixel_number position) 0 planes 0 + 192 ≤ k) → slice_index new k ≡ slice_index old k)
     → element_of U8 planes new other u ≡ element_of U8 planes old other u
 three_kept planes old new position other u three row inside is kept =
     ⊎_elim

@@ -1,5 +1,6 @@
 -- Which operations make each whole number of one.
-use Rattle.std.proofs.Common.{◌≡◌, ℕ, ◌+◌, ◌*◌, ◌/◌, ◌%◌, ◌^◌, ◌<◌, ◌≤◌, ◌⊎◌, ⊎_elim, Bool, true, false, List, slice_index, refl, sym, ap, ◌∙◌, arith, subst}
+use Rattle.std.proofs.Common.{◌≡◌, ℕ, ◌+◌, ◌*◌, ◌/◌, ◌%◌, ◌^◌, ◌<◌, ◌≤◌, ◌⊎◌, ⊎_elim, Bool, true, false, List, slice_index, refl, sym, ap}
+use Rattle.std.proofs.Common.{◌∙◌, arith, subst}
 use Rattle.std.specs.Prelude.{if◌then◌else◌}
 use Rattle.std.proofs.lemmas.Nat.{pow_pos}
 use Rattle.std.proofs.Math.Nat.{mod-lt, div-le_self}
@@ -25,7 +26,8 @@ pub swap_bits : (stage : Stage) → may_follow stage SwapBytes ≡ true → (bit
 unfolding may_follow
 swap_bits stage h = wide_bits stage h
 
-pub swap_map : (stage : Stage) (count : ℕ) → count ≡ bits_at stage → may_follow stage SwapBytes ≡ true → are_good stage SwapBytes ≡ true → IsMap stage SwapBytes (λ m. reversed_bytes (count / 8) m)
+pub swap_map : (stage : Stage) (count : ℕ) → count ≡ bits_at stage → may_follow stage SwapBytes ≡ true → are_good stage SwapBytes ≡ true
+    → IsMap stage SwapBytes (λ m. reversed_bytes (count / 8) m)
 unfolding stage_after apply
 swap_map stage count same follows good = subst (λ b. IsMap stage SwapBytes (λ m. reversed_bytes (b / 8) m)) (sym same) (record {
   before = whole_before stage SwapBytes refl follows good;
@@ -38,7 +40,8 @@ swap_map stage count same follows good = subst (λ b. IsMap stage SwapBytes (λ 
       (swap_bits stage follows);
 })
 
-pub left_map : (stage : Stage) (n count : ℕ) → count ≡ bits_at stage → may_follow stage (LeftShift n) ≡ true → are_good stage (LeftShift n) ≡ true → IsMap stage (LeftShift n) (λ m. m * 2 ^ n % 2 ^ count)
+pub left_map : (stage : Stage) (n count : ℕ) → count ≡ bits_at stage → may_follow stage (LeftShift n) ≡ true
+    → are_good stage (LeftShift n) ≡ true → IsMap stage (LeftShift n) (λ m. m * 2 ^ n % 2 ^ count)
 unfolding stage_after apply
 left_map stage n count same follows good = subst (λ b. IsMap stage (LeftShift n) (λ m. m * 2 ^ n % 2 ^ b)) (sym same) (record {
   before = whole_before stage (LeftShift n) refl follows good;
@@ -47,7 +50,8 @@ left_map stage n count same follows good = subst (λ b. IsMap stage (LeftShift n
   small = λ m below. mod-lt (m * 2 ^ n) (pow_pos (bits_at stage));
 })
 
-pub right_map : (stage : Stage) (n : ℕ) → may_follow stage (RightShift n) ≡ true → are_good stage (RightShift n) ≡ true → IsMap stage (RightShift n) (λ m. m / 2 ^ n)
+pub right_map : (stage : Stage) (n : ℕ) → may_follow stage (RightShift n) ≡ true → are_good stage (RightShift n) ≡ true
+    → IsMap stage (RightShift n) (λ m. m / 2 ^ n)
 unfolding stage_after apply
 right_map stage n follows good = record {
   before = whole_before stage (RightShift n) refl follows good;
@@ -56,7 +60,8 @@ right_map stage n follows good = record {
   small = λ m below. omega (arith, div-le_self m (2 ^ n), below);
 }
 
-pub retype_map : (stage : Stage) (to : PixType) (expand : Bool) (factor count : ℕ) → factor ≡ (if expand then 257 else 1) → count ≡ bits to → is_whole stage ≡ true → is_whole_type to ≡ true
+pub retype_map : (stage : Stage) (to : PixType) (expand : Bool) (factor count : ℕ) → factor ≡ (if expand then 257 else 1) → count ≡ bits to
+    → is_whole stage ≡ true → is_whole_type to ≡ true
     → IsMap stage (Convert to expand) (λ m. m * factor % 2 ^ count)
 unfolding stage_after apply
 retype_map stage to expand factor count same_factor same whole whole_to = rw (same_factor, same) (record {
@@ -69,9 +74,12 @@ retype_map stage to expand factor count same_factor same whole whole_to = rw (sa
     retyped : (to : PixType) (expand : Bool) (values : Values) (v : ℕ) → is_whole_type to ≡ true → v < 4 → are_fractions values ≡ false
         → number (converted to expand values) v ≡ number values v * (if expand then 257 else 1) % 2 ^ bits to
     retyped Rat expand values v whole small kind = cc
-    retyped U8 expand (Numbers values) v whole small kind = four_at (λ i. slice_index values i * (if expand then 257 else 1) % 2 ^ 8) v 0 small
-    retyped U16 expand (Numbers values) v whole small kind = four_at (λ i. slice_index values i * (if expand then 257 else 1) % 2 ^ 16) v 0 small
-    retyped U32 expand (Numbers values) v whole small kind = four_at (λ i. slice_index values i * (if expand then 257 else 1) % 2 ^ 32) v 0 small
+    retyped U8 expand (Numbers values) v whole small kind =
+        four_at (λ i. slice_index values i * (if expand then 257 else 1) % 2 ^ 8) v 0 small
+    retyped U16 expand (Numbers values) v whole small kind =
+        four_at (λ i. slice_index values i * (if expand then 257 else 1) % 2 ^ 16) v 0 small
+    retyped U32 expand (Numbers values) v whole small kind =
+        four_at (λ i. slice_index values i * (if expand then 257 else 1) % 2 ^ 32) v 0 small
     retyped U8 expand (Fractions values) v whole small kind = cc
     retyped U16 expand (Fractions values) v whole small kind = cc
     retyped U32 expand (Fractions values) v whole small kind = cc

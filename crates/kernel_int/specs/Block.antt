@@ -1,5 +1,6 @@
 -- A block: 64 pixels of a row. Value v of pixel i is at 64 v + i.
-use Rattle.std.specs.Prelude.{◌≡◌, ◌≢◌, ℕ, zero, suc, ◌+◌, ◌-◌, ◌*◌, ◌<◌, ◌≤◌, ◌⊎◌, if◌then◌else◌, nat_lt, List, [], ◌∷◌, slice_index, slice_index_or}
+use Rattle.std.specs.Prelude.{◌≡◌, ◌≢◌, ℕ, zero, suc, ◌+◌, ◌-◌, ◌*◌, ◌<◌, ◌≤◌, ◌⊎◌, if◌then◌else◌, nat_lt, List, [], ◌∷◌, slice_index}
+use Rattle.std.specs.Prelude.{slice_index_or}
 use Rattle.op_list.specs.declared.position.PixelPosition.{PixelPosition}
 use Rattle.op_list.specs.Pixel.{pixel_number}
 

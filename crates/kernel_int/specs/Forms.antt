@@ -1,5 +1,6 @@
 -- What a block holds after some operations, and when the numbers that a kernel works with are those of an operation.
-use Rattle.std.specs.Prelude.{◌≡◌, ℕ, ◌+◌, ◌-◌, ◌*◌, ◌/◌, ◌^◌, ◌<◌, ◌≤◌, Bool, true, false, List, [], length, take, Option, Some, None, sum, slice_index, slice_index_or, ℤ, pos, ◌≤ℤ◌, ◌<ℤ◌, ◌*ℤ◌, ◌⊎◌, unsigned_abs, FitsSigned}
+use Rattle.std.specs.Prelude.{◌≡◌, ℕ, ◌+◌, ◌-◌, ◌*◌, ◌/◌, ◌^◌, ◌<◌, ◌≤◌, Bool, true, false, List, [], length, take, Option, Some, None, sum}
+use Rattle.std.specs.Prelude.{slice_index, slice_index_or, ℤ, pos, ◌≤ℤ◌, ◌<ℤ◌, ◌*ℤ◌, ◌⊎◌, unsigned_abs, FitsSigned}
 use Rattle.std.specs.Int.{Width, w32, w64, w128}
 use Rattle.frac_math.specs.Standing.{Stands}
 use Rattle.frac_math.specs.Fraction.{ℚ}
@@ -60,7 +61,8 @@ denominator form v = unsigned_abs (extent_at form v).denominator
 -- the numerators of all 64 pixels lie in their bounds
 abbrev pub AreWithin : {N : Type 0} → (N → ℤ) → List N → Form → Type 0
 AreWithin {N} value numbers form = (v i : ℕ) (d : N) → v < form.count → i < 64
-    → ((extent_at form v).least ≤ℤ value (slice_index_or numbers (64 * v + i) d)) × (value (slice_index_or numbers (64 * v + i) d) ≤ℤ (extent_at form v).greatest)
+    → ((extent_at form v).least ≤ℤ value (slice_index_or numbers (64 * v + i) d))
+    × (value (slice_index_or numbers (64 * v + i) d) ≤ℤ (extent_at form v).greatest)
 
 -- those of the first n pixels stand for the fractions, over the denominators
 abbrev pub HoldsFractions : {N : Type 0} → (N → ℤ) → List N → Form → ℕ → (ℕ → Values) → Type 0
@@ -68,18 +70,22 @@ HoldsFractions {N} value numbers form n given = (v i : ℕ) (d : N) → v < form
     → Stands (fraction (given i) v) (value (slice_index_or numbers (64 * v + i) d)) (denominator form v)
 
 -- A block whose first n pixels have the given values, as far as the form has them.
-pub record IsState {W N : Type 0} (digits : W → ℕ) (value : N → ℤ) (stage : Stage) (form : Form) (values : List W) (numbers : List N) (n : ℕ) (given : ℕ → Values) : Type 0 where
+pub record IsState {W N : Type 0} (digits : W → ℕ) (value : N → ℤ) (stage : Stage) (form : Form) (values : List W) (numbers : List N)
+    (n : ℕ) (given : ℕ → Values) : Type 0 where
   pub whole : is_whole stage ≡ true → Holds digits values form.count n (λ v i. number (given i) v)
   pub exact : is_rational stage ≡ true → HoldsFractions value numbers form n given
 
 -- all 64 pixels of a block are in bounds
-pub record IsBounded {W N : Type 0} (digits : W → ℕ) (value : N → ℤ) (stage : Stage) (form : Form) (values : List W) (numbers : List N) : Type 0 where
+pub record IsBounded {W N : Type 0} (digits : W → ℕ) (value : N → ℤ) (stage : Stage) (form : Form) (values : List W)
+    (numbers : List N) : Type 0 where
   pub small : is_whole stage ≡ true → AreBelow digits values form.count (2 ^ bits_at stage)
   pub bound : is_rational stage ≡ true → AreWithin value numbers form
 
 -- Where the first n pixels of a block have some values, they have afterwards what the operation makes of them.
-abbrev pub Performs : {W N : Type 0} → (W → ℕ) → (N → ℤ) → Stage → Form → Op → Form → PixelPosition → List W → List N → List W → List N → Type 0
-Performs digits value stage before op after position old_values old_numbers values numbers = (frame : List ℕ) (n : ℕ) (given : ℕ → Values) → n ≤ 64
+abbrev pub Performs : {W N : Type 0} → (W → ℕ) → (N → ℤ) → Stage → Form → Op → Form → PixelPosition → List W → List N → List W → List N
+    → Type 0
+Performs digits value stage before op after position old_values old_numbers values numbers = (frame : List ℕ) (n : ℕ) (given : ℕ → Values)
+    → n ≤ 64
     → ((i : ℕ) → are_fractions (given i) ≡ is_rational stage)
     → IsState digits value stage before old_values old_numbers n given
     → IsState digits value (stage_after stage op) after values numbers n (λ i. apply frame (pixel_at position i) stage op (given i))
@@ -114,16 +120,19 @@ IsTerm before coefficient k d j =
 
 -- the numbers lie in the bounds of a form
 abbrev pub IsInside : Form → (ℕ → ℤ) → Type 0
-IsInside before numbers = (j : ℕ) → j < before.count → ((extent_at before j).least ≤ℤ numbers j) × (numbers j ≤ℤ (extent_at before j).greatest)
+IsInside before numbers = (j : ℕ) → j < before.count
+    → ((extent_at before j).least ≤ℤ numbers j) × (numbers j ≤ℤ (extent_at before j).greatest)
 
 -- a row of factors is a row of coefficients, over the denominators, and all that it works out fits
 pub record IsRow (width : Width) (before : Form) (coefficients : List ℚ) (factors : List ℤ) (extent : Extent) : Type 0 where
   pub positive : 0 < unsigned_abs extent.denominator
   pub terms : (j : ℕ) → j < 4 → IsTerm before (fraction_in coefficients j) (factor factors j) (unsigned_abs extent.denominator) j
-  pub constant : factor factors 4 *ℤ pos (fraction_in coefficients 4).denominator ≡ (fraction_in coefficients 4).numerator *ℤ pos (unsigned_abs extent.denominator)
+  pub constant : factor factors 4 *ℤ pos (fraction_in coefficients 4).denominator ≡ (fraction_in coefficients 4).numerator
+      *ℤ pos (unsigned_abs extent.denominator)
   pub entries : (j : ℕ) → j < 5 → FitsSigned width (factor factors j)
   pub fits : (numbers : ℕ → ℤ) → IsInside before numbers → RowFits width factors numbers
-  pub inside : (numbers : ℕ → ℤ) → IsInside before numbers → (extent.least ≤ℤ row_sum factors numbers 4) × (row_sum factors numbers 4 ≤ℤ extent.greatest)
+  pub inside : (numbers : ℕ → ℤ) → IsInside before numbers
+      → (extent.least ≤ℤ row_sum factors numbers 4) × (row_sum factors numbers 4 ≤ℤ extent.greatest)
 
 abbrev pub no_divisor : Divisor
 no_divisor = Short (record { d = 0; bound = 0; factor = 0; shift = 0 })
@@ -139,7 +148,8 @@ pub record IsNarrowed (width : Width) (count : ℕ) (before after : Form) (v : �
 -- the numbers of an operation that makes each value from that value alone
 abbrev pub AreMade : Width → Form → Op → Form → Type 0
 AreMade width before op after = (v : ℕ) → v < after.count
-    → (v < before.count) × IsMade width op v (extent_at before v) (factor (factors_at after v) 0) (factor (factors_at after v) 1) (extent_at after v)
+    → (v < before.count) × IsMade width op v (extent_at before v) (factor (factors_at after v) 0) (factor (factors_at after v) 1)
+    (extent_at after v)
 
 -- ---- Convert
 -- whole numbers over 1, in a width that holds them
@@ -150,7 +160,8 @@ AreWidened width stage before after =
 -- floors of fractions, as whole numbers of a type that the storage holds
 abbrev pub AreNarrowed : ℕ → Width → Stage → Form → PixType → Form → Type 0
 AreNarrowed count width stage before to after =
-    (is_rational stage ≡ true) × (2 ^ type_bits to ≤ 2 ^ count) × ((v : ℕ) → v < after.count → IsNarrowed width (type_bits to) before after v)
+    (is_rational stage ≡ true) × (2 ^ type_bits to ≤ 2 ^ count)
+    × ((v : ℕ) → v < after.count → IsNarrowed width (type_bits to) before after v)
 
 -- fractions that stay what they are
 abbrev pub AreKept : Form → Form → Type 0
@@ -190,13 +201,15 @@ IsStep bits width stage before (Write elem planes) after = ⊥
 IsStep bits width stage before SwapBytes after = after.count ≤ before.count
 IsStep bits width stage before (Unpack widths) after = 0 < before.count
 IsStep bits width stage before (Pack widths) after = (j : ℕ) → j < 4 → (j < before.count) ⊎ (slice_index widths j ≡ 0)
-IsStep bits width stage before (Clear entries) after = (v : ℕ) → v < after.count → IsCleared width (is_rational stage) before v (entry entries v) (factor (factors_at after v) 0) (extent_at after v)
+IsStep bits width stage before (Clear entries) after = (v : ℕ) → v < after.count
+    → IsCleared width (is_rational stage) before v (entry entries v) (factor (factors_at after v) 0) (extent_at after v)
 IsStep bits width stage before (LeftShift n) after = after.count ≤ before.count
 IsStep bits width stage before (RightShift n) after = after.count ≤ before.count
 IsStep bits width stage before (Swizzle from) after = (v : ℕ) → v < after.count → IsMoved before (slice_index from v) after v
 IsStep bits width stage before (Convert to expand) after = IsConverted bits width stage to before after
 IsStep bits width stage before (Dither k) after = AreMade width before (Dither k) after
-IsStep bits width stage before (Linear rows) after = (v : ℕ) → v < after.count → IsRow width before (row_of rows v) (factors_at after v) (extent_at after v)
+IsStep bits width stage before (Linear rows) after = (v : ℕ) → v < after.count
+    → IsRow width before (row_of rows v) (factors_at after v) (extent_at after v)
 IsStep bits width stage before (Scale by) after = AreMade width before (Scale by) after
 IsStep bits width stage before (Min limits) after = AreMade width before (Min limits) after
 IsStep bits width stage before (Max limits) after = AreMade width before (Max limits) after
@@ -216,7 +229,8 @@ last_op ops = op_at ops (length ops - 1)
 
 -- the steps before n, from the second operation on
 abbrev pub AreSteps : List Op → List Form → ℕ → Width → ℕ → Type 0
-AreSteps ops forms bits width n = (k : ℕ) → 0 < k → k < n → IsStep bits width (stage_before ops k) (form_at forms (k - 1)) (op_at ops k) (form_at forms k)
+AreSteps ops forms bits width n = (k : ℕ) → 0 < k → k < n
+    → IsStep bits width (stage_before ops k) (form_at forms (k - 1)) (op_at ops k) (form_at forms k)
 
 abbrev pub AreFew : List Form → Type 0
 AreFew forms = (k : ℕ) → (form_at forms k).count ≤ 4
@@ -254,4 +268,5 @@ HasNumbers before factors numbers = (j : ℕ) → j < 4
 -- all that a row works out for numbers in the bounds of a form fits, and its sum lies between two numbers
 pub record IsRange (width : Width) (before : Form) (factors : List ℤ) (lower higher : ℤ) : Type 0 where
   pub fits : (numbers : ℕ → ℤ) → HasNumbers before factors numbers → RowFits width factors numbers
-  pub inside : (numbers : ℕ → ℤ) → HasNumbers before factors numbers → (lower ≤ℤ row_sum factors numbers 4) × (row_sum factors numbers 4 ≤ℤ higher)
+  pub inside : (numbers : ℕ → ℤ) → HasNumbers before factors numbers
+      → (lower ≤ℤ row_sum factors numbers 4) × (row_sum factors numbers 4 ≤ℤ higher)

@@ -1,5 +1,6 @@
 -- Numerators of all four values over one denominator, within the width of a list: what a kernel of 128 bits works with.
-use Rattle.std.specs.Prelude.{◌≡◌, ◌⊎◌, ℕ, ◌+◌, ◌*◌, ◌/◌, ◌^◌, ◌<◌, ◌≤◌, max, true, List, drop, Option, IfSome, ℤ, pos, ◌*ℤ◌, unsigned_abs, ◌<ℤ◌}
+use Rattle.std.specs.Prelude.{◌≡◌, ◌⊎◌, ℕ, ◌+◌, ◌*◌, ◌/◌, ◌^◌, ◌<◌, ◌≤◌, max, true, List, drop, Option, IfSome, ℤ, pos, ◌*ℤ◌, unsigned_abs}
+use Rattle.std.specs.Prelude.{◌<ℤ◌}
 use Rattle.op_list.specs.declared.types.Stage.{Stage}
 use Rattle.std.specs.Int.{w128}
 use Rattle.frac_math.specs.Fraction.{ℚ}

@@ -1,5 +1,6 @@
 // A list of operations on a block of pixels.
-ghost use Rattle.std.specs.Prelude.{◌≡◌, ℕ, ◌+◌, ◌*◌, ◌-◌, ◌^◌, ◌<◌, ◌≤◌, true, false, length, sum, slice_index_or, List};
+ghost use Rattle.std.specs.Prelude.{◌≡◌, ℕ, ◌+◌, ◌*◌, ◌-◌, ◌^◌, ◌<◌, ◌≤◌, true, false, length, sum};
+ghost use Rattle.std.specs.Prelude.{slice_index_or, List};
 ghost use Rattle.op_list.specs.Types.{bits, bits_at};
 ghost use Rattle.op_list.specs.Typing.{may_follow, are_good, stage_after, is_write};
 ghost use Rattle.op_list.specs.Apply.{apply};
@@ -9,7 +10,8 @@ ghost use Rattle.op_list.specs.Pixel.{element_of, frame_length};
 ghost use Rattle.op_list.specs.Values.{number, no_values};
 ghost use Rattle.op_list.specs.Run.{run_from, read_length};
 ghost use Rattle.kernel_int.specs.Block.{pixel_at, Holds, AreBelow, IsOutside};
-ghost use Rattle.kernel_int.specs.Forms.{IsKernel, IsState, IsBounded, form_at, stage_before, values_before, last_op, planes_of, elem_of};
+ghost use Rattle.kernel_int.specs.Forms.{IsKernel, IsState, IsBounded, form_at, stage_before};
+ghost use Rattle.kernel_int.specs.Forms.{values_before, last_op, planes_of, elem_of};
 
 use crate::form::Form;
 use crate::numerator::Numerator;
@@ -31,12 +33,15 @@ fn read_values<W: WholeNumber>(
     values: &mut [W],
 )
     requires good { are_good Start (Op.Read elem planes.now palette) ≡ true }
-    requires from { length from.now ≡ frame_length (Op.Read elem planes.now palette) position.now.width position.now.rows }
+    requires from { length from.now ≡ frame_length
+        (Op.Read elem planes.now palette) position.now.width position.now.rows }
     requires inside { (0 < n) × (n ≤ 64) × (position.now.x + n ≤ position.now.width) }
     requires row { position.now.row < position.now.rows }
     requires bits { 2 ^ bits elem ≤ 2 ^ W.bits }
     requires block { length values.old ≡ 256 }
-    ensures set { Holds W.number values.new 4 n (λ v i. number (apply from.now (pixel_at position.now i) Start (Op.Read elem planes.now palette) no_values) v) }
+    ensures set { Holds W.number values.new 4 n
+        (λ v i. number (apply from.now (pixel_at position.now i) Start
+        (Op.Read elem planes.now palette) no_values) v) }
     ensures small { AreBelow W.number values.new 4 (2 ^ bits elem) }
 {
     if palette {
@@ -63,7 +68,8 @@ fn read_first<W: WholeNumber>(
     requires bits { 2 ^ bits_at (stage_after Start op.now) ≤ 2 ^ W.bits }
     requires block { length values.old ≡ 256 }
     ensures stage { result ≡ stage_after Start op.now }
-    ensures set { Holds W.number values.new 4 n (λ v i. number (apply from.now (pixel_at position.now i) Start op.now no_values) v) }
+    ensures set { Holds W.number values.new 4 n
+        (λ v i. number (apply from.now (pixel_at position.now i) Start op.now no_values) v) }
     ensures small { AreBelow W.number values.new 4 (2 ^ bits_at (stage_after Start op.now)) }
 {
     match op {
@@ -93,10 +99,18 @@ fn run_steps<W: WholeNumber, N: Numerator>(
     requires kernel { IsKernel ops.now forms.now W.bits N.width }
     requires some { 2 ≤ length ops.now }
     requires first { first ≡ stage_before ops.now 1 }
-    requires block { (length values.old ≡ 256) × (length spare.old ≡ 256) × (length numbers.old ≡ 256) × (length sums.old ≡ 256) }
-    requires bounded { IsBounded W.number N.value (stage_before ops.now 1) (form_at forms.now 0) values.old numbers.old }
-    ensures bounded { IsBounded W.number N.value (stage_before ops.now (length ops.now - 1)) (form_at forms.now (length ops.now - 2)) values.new numbers.new }
-    ensures holds { (frame : List ℕ) (n : ℕ) → n ≤ 64 → IsState W.number N.value (stage_before ops.now 1) (form_at forms.now 0) values.old numbers.old n (values_before ops.now frame position.now 1) → IsState W.number N.value (stage_before ops.now (length ops.now - 1)) (form_at forms.now (length ops.now - 2)) values.new numbers.new n (values_before ops.now frame position.now (length ops.now - 1)) }
+    requires block { (length values.old ≡ 256) × (length spare.old ≡ 256)
+        × (length numbers.old ≡ 256) × (length sums.old ≡ 256) }
+    requires bounded { IsBounded W.number N.value (stage_before ops.now 1)
+        (form_at forms.now 0) values.old numbers.old }
+    ensures bounded { IsBounded W.number N.value (stage_before ops.now (length ops.now - 1))
+        (form_at forms.now (length ops.now - 2)) values.new numbers.new }
+    ensures holds { (frame : List ℕ) (n : ℕ) → n ≤ 64
+        → IsState W.number N.value (stage_before ops.now 1)
+        (form_at forms.now 0) values.old numbers.old n (values_before ops.now frame position.now 1)
+        → IsState W.number N.value (stage_before ops.now (length ops.now - 1))
+        (form_at forms.now (length ops.now - 2)) values.new numbers.new n
+        (values_before ops.now frame position.now (length ops.now - 1)) }
 {
     let mut stage = first;
     for k in 1..ops.len() - 1 {
@@ -129,9 +143,14 @@ fn write_last<W: WholeNumber>(
     requires inside { (0 < n) × (n ≤ 64) × (position.now.x + n ≤ position.now.width) }
     requires row { position.now.row < position.now.rows }
     requires block { length values.now ≡ 256 }
-    requires small { AreBelow W.number values.now (sum (planes_of op.now)) (2 ^ bits (elem_of op.now)) }
-    ensures stored { (v i : ℕ) (d : W) → v < sum (planes_of op.now) → i < n → element_of (elem_of op.now) (planes_of op.now) to.new (pixel_at position.now i) v ≡ W.number (slice_index_or values.now (64 * v + i) d) }
-    ensures others { (other : PixelPosition) → IsOutside position.now n other → (v : ℕ) → element_of (elem_of op.now) (planes_of op.now) to.new other v ≡ element_of (elem_of op.now) (planes_of op.now) to.old other v }
+    requires small { AreBelow W.number values.now (sum (planes_of op.now))
+        (2 ^ bits (elem_of op.now)) }
+    ensures stored { (v i : ℕ) (d : W) → v < sum (planes_of op.now) → i < n
+        → element_of (elem_of op.now) (planes_of op.now) to.new (pixel_at position.now i) v
+        ≡ W.number (slice_index_or values.now (64 * v + i) d) }
+    ensures others { (other : PixelPosition) → IsOutside position.now n other → (v : ℕ)
+        → element_of (elem_of op.now) (planes_of op.now) to.new other v
+        ≡ element_of (elem_of op.now) (planes_of op.now) to.old other v }
 {
     match op {
         Op::Write { elem, planes } => write_block(*elem, planes, values, position, n, to),
@@ -154,12 +173,19 @@ pub fn run_block<W: WholeNumber, N: Numerator>(
 )
     requires kernel { IsKernel ops.now forms.now W.bits N.width }
     requires from { length from.now ≡ read_length ops.now position.now.width position.now.rows }
-    requires to { length to.old ≡ frame_length (last_op ops.now) position.now.width position.now.rows }
+    requires to { length to.old ≡ frame_length
+        (last_op ops.now) position.now.width position.now.rows }
     requires inside { (0 < n) × (n ≤ 64) × (position.now.x + n ≤ position.now.width) }
     requires row { position.now.row < position.now.rows }
-    requires block { (length values.old ≡ 256) × (length spare.old ≡ 256) × (length numbers.old ≡ 256) × (length sums.old ≡ 256) }
-    ensures stored { (v i : ℕ) → v < sum (planes_of (last_op ops.now)) → i < n → element_of (elem_of (last_op ops.now)) (planes_of (last_op ops.now)) to.new (pixel_at position.now i) v ≡ number (run_from from.now (pixel_at position.now i) Start ops.now no_values) v }
-    ensures others { (other : PixelPosition) → IsOutside position.now n other → (v : ℕ) → element_of (elem_of (last_op ops.now)) (planes_of (last_op ops.now)) to.new other v ≡ element_of (elem_of (last_op ops.now)) (planes_of (last_op ops.now)) to.old other v }
+    requires block { (length values.old ≡ 256) × (length spare.old ≡ 256)
+        × (length numbers.old ≡ 256) × (length sums.old ≡ 256) }
+    ensures stored { (v i : ℕ) → v < sum (planes_of (last_op ops.now)) → i < n
+        → element_of (elem_of (last_op ops.now)) (planes_of (last_op ops.now)) to.new
+        (pixel_at position.now i) v ≡ number
+        (run_from from.now (pixel_at position.now i) Start ops.now no_values) v }
+    ensures others { (other : PixelPosition) → IsOutside position.now n other → (v : ℕ)
+        → element_of (elem_of (last_op ops.now)) (planes_of (last_op ops.now)) to.new other v
+        ≡ element_of (elem_of (last_op ops.now)) (planes_of (last_op ops.now)) to.old other v }
 {
     let first = read_first(&ops[0], from, position, n, values);
     run_steps(ops, forms, first, position, values, spare, numbers, sums);

@@ -1,9 +1,11 @@
 // The numbers of a kernel, worked out from a list.
-ghost use Rattle.std.specs.Prelude.{◌≡◌, ◌≤◌, ◌-◌, ◌+◌, ◌^◌, ◌<◌, true, length, sum, OnOk, IfOk, IfSome, IsTrue, ◌↔◌};
+ghost use Rattle.std.specs.Prelude.{◌≡◌, ◌≤◌, ◌-◌, ◌+◌, ◌^◌, ◌<◌, true, length, sum, OnOk, IfOk};
+ghost use Rattle.std.specs.Prelude.{IfSome, IsTrue, ◌↔◌};
 ghost use Rattle.op_list.specs.declared.types.Stage.TheVariants.{Start};
 ghost use Rattle.op_list.specs.Typing.{IsOpList, ends_with_write, is_write};
 ghost use Rattle.op_list.specs.Types.{bits_at};
-ghost use Rattle.kernel_int.specs.Forms.{AreSteps, AreFew, AreStored, IsStep, bits_of, width_of, last_op, planes_of};
+ghost use Rattle.kernel_int.specs.Forms.{AreSteps, AreFew, AreStored, IsStep, bits_of, width_of};
+ghost use Rattle.kernel_int.specs.Forms.{last_op, planes_of};
 
 use crate::clear::clear_form;
 use crate::convert::convert_form;

@@ -1,11 +1,15 @@
 // Values that are replaced by given ones.
-ghost use Rattle.std.specs.Prelude.{◌≡◌, ℕ, ◌+◌, ◌*◌, ◌^◌, ◌<◌, ◌≤◌, ◌⊎◌, true, false, pos, length, slice_index_or, unsigned_abs, IfSome, IsTrue, Option, Some, None, FitsSigned};
+ghost use Rattle.std.specs.Prelude.{◌≡◌, ℕ, ◌+◌, ◌*◌, ◌^◌, ◌<◌, ◌≤◌, ◌⊎◌, true, false, pos, length};
+ghost use Rattle.std.specs.Prelude.{slice_index_or, unsigned_abs, IfSome, IsTrue, Option, Some};
+ghost use Rattle.std.specs.Prelude.{None, FitsSigned};
 ghost use Rattle.std.specs.Int.{w128};
 ghost use Rattle.op_list.specs.Types.{bits_at, is_rational};
 ghost use Rattle.op_list.specs.Typing.{may_follow, are_good, stage_after};
 ghost use Rattle.op_list.specs.Values.{entry};
 ghost use Rattle.op_list.specs.Apply.{cleared_number};
-ghost use Rattle.kernel_int.specs.Forms.{IsBounded, IsStep, Performs, IsCleared, IsConstant, cleared_numerator, extent_at, factor, factors_at, width_of};
+ghost use Rattle.kernel_int.specs.Forms.{IsBounded, IsStep, Performs, IsCleared, IsConstant};
+ghost use Rattle.kernel_int.specs.Forms.{cleared_numerator, extent_at, factor, factors_at};
+ghost use Rattle.kernel_int.specs.Forms.{width_of};
 
 use crate::form::{Extent, Form, NO_DIVISOR, Tier};
 use crate::interval::fits;
@@ -33,8 +37,11 @@ pub fn clear_step<W: WholeNumber, N: Numerator>(
     requires few { after.now.count ≤ 4 }
     requires block { (length values.old ≡ 256) × (length numbers.old ≡ 256) }
     requires bounded { IsBounded W.number N.value stage before.now values.old numbers.old }
-    ensures bounded { IsBounded W.number N.value (stage_after stage (Op.Clear entries.now)) after.now values.new numbers.new }
-    ensures holds { Performs W.number N.value stage before.now (Op.Clear entries.now) after.now position.now values.old numbers.old values.new numbers.new }
+    ensures bounded { IsBounded W.number N.value
+        (stage_after stage (Op.Clear entries.now)) after.now values.new numbers.new }
+    ensures holds { Performs W.number N.value stage before.now
+        (Op.Clear entries.now) after.now position.now values.old numbers.old values.new
+        numbers.new }
 {
     if stage.is_rational() {
         clear_fractions(entries, stage, position, before, after, values, numbers)
@@ -60,8 +67,11 @@ fn clear_numbers<W: WholeNumber, N: Numerator>(
     requires few { after.now.count ≤ 4 }
     requires block { length values.old ≡ 256 }
     requires bounded { IsBounded W.number N.value stage before.now values.old _numbers.now }
-    ensures bounded { IsBounded W.number N.value (stage_after stage (Op.Clear entries.now)) after.now values.new _numbers.now }
-    ensures holds { Performs W.number N.value stage before.now (Op.Clear entries.now) after.now _position.now values.old _numbers.now values.new _numbers.now }
+    ensures bounded { IsBounded W.number N.value
+        (stage_after stage (Op.Clear entries.now)) after.now values.new _numbers.now }
+    ensures holds { Performs W.number N.value stage before.now
+        (Op.Clear entries.now) after.now _position.now values.old _numbers.now values.new
+        _numbers.now }
 {
     for v in 0..after.count {
         clear_number(&entries[v], v, values);
@@ -71,9 +81,13 @@ fn clear_numbers<W: WholeNumber, N: Numerator>(
 // Value v of each pixel: the entry, where it is given.
 fn clear_number<W: WholeNumber>(entry: &Option<Frac>, v: usize, values: &mut [W])
     requires block { (v < 4) × (length values.old ≡ 256) }
-    requires fits { IfSome entry.now (λ x. (unsigned_abs x.numerator < 2 ^ 32) × (unsigned_abs x.numerator < 2 ^ W.bits)) }
-    ensures set { (i : ℕ) (d : W) → i < 64 → W.number (slice_index_or values.new (64 * v + i) d) ≡ cleared_number entry.now (W.number (slice_index_or values.old (64 * v + i) d)) }
-    ensures kept { (j : ℕ) (d : W) → (j < 64 * v) ⊎ (64 * v + 64 ≤ j) → slice_index_or values.new j d ≡ slice_index_or values.old j d }
+    requires fits { IfSome entry.now (λ x. (unsigned_abs x.numerator < 2 ^ 32)
+        × (unsigned_abs x.numerator < 2 ^ W.bits)) }
+    ensures set { (i : ℕ) (d : W) → i < 64
+        → W.number (slice_index_or values.new (64 * v + i) d)
+        ≡ cleared_number entry.now (W.number (slice_index_or values.old (64 * v + i) d)) }
+    ensures kept { (j : ℕ) (d : W) → (j < 64 * v) ⊎ (64 * v + 64 ≤ j)
+        → slice_index_or values.new j d ≡ slice_index_or values.old j d }
 {
     if let Some(x) = entry {
         fill(values, v, W::narrow(x.num().unsigned_abs() as u32));
@@ -95,8 +109,11 @@ fn clear_fractions<W: WholeNumber, N: Numerator>(
     requires few { after.now.count ≤ 4 }
     requires block { length numbers.old ≡ 256 }
     requires bounded { IsBounded W.number N.value stage before.now _values.now numbers.old }
-    ensures bounded { IsBounded W.number N.value (stage_after stage (Op.Clear entries.now)) after.now _values.now numbers.new }
-    ensures holds { Performs W.number N.value stage before.now (Op.Clear entries.now) after.now _position.now _values.now numbers.old _values.now numbers.new }
+    ensures bounded { IsBounded W.number N.value
+        (stage_after stage (Op.Clear entries.now)) after.now _values.now numbers.new }
+    ensures holds { Performs W.number N.value stage before.now
+        (Op.Clear entries.now) after.now _position.now _values.now numbers.old _values.now
+        numbers.new }
 {
     for v in 0..after.count {
         clear_fraction(&entries[v], after, v, numbers);
@@ -107,8 +124,12 @@ fn clear_fractions<W: WholeNumber, N: Numerator>(
 fn clear_fraction<N: Numerator>(entry: &Option<Frac>, form: &Form, v: usize, numbers: &mut [N])
     requires block { (v < 4) × (length numbers.old ≡ 256) }
     requires fits { IfSome entry.now (λ x. FitsSigned N.width (factor (factors_at form.now v) 0)) }
-    ensures set { (i : ℕ) (d : N) → i < 64 → N.value (slice_index_or numbers.new (64 * v + i) d) ≡ cleared_numerator entry.now (factor (factors_at form.now v) 0) (N.value (slice_index_or numbers.old (64 * v + i) d)) }
-    ensures kept { (j : ℕ) (d : N) → (j < 64 * v) ⊎ (64 * v + 64 ≤ j) → slice_index_or numbers.new j d ≡ slice_index_or numbers.old j d }
+    ensures set { (i : ℕ) (d : N) → i < 64
+        → N.value (slice_index_or numbers.new (64 * v + i) d)
+        ≡ cleared_numerator entry.now (factor (factors_at form.now v) 0)
+        (N.value (slice_index_or numbers.old (64 * v + i) d)) }
+    ensures kept { (j : ℕ) (d : N) → (j < 64 * v) ⊎ (64 * v + 64 ≤ j)
+        → slice_index_or numbers.new j d ≡ slice_index_or numbers.old j d }
 {
     if let Some(_) = entry {
         fill(numbers, v, single_of(form, v));
@@ -124,7 +145,9 @@ pub fn clear_form(
     tier: Tier,
 ) -> Option<Form>
     ensures few { IfSome result (λ form. form.count ≤ 4) }
-    ensures step { IfSome result (λ form. (v : ℕ) → v < form.count → IsCleared (width_of tier) (is_rational stage) before.now v (entry entries.now v) (factor (factors_at form v) 0) (extent_at form v)) }
+    ensures step { IfSome result (λ form. (v : ℕ) → v < form.count
+        → IsCleared (width_of tier) (is_rational stage) before.now v (entry entries.now v)
+        (factor (factors_at form v) 0) (extent_at form v)) }
 {
     if count > 4 {
         return None;
@@ -162,7 +185,8 @@ fn cleared_value(
     tier: Tier,
 ) -> Option<Cleared>
     requires { v < 4 }
-    ensures cleared { IfSome result (λ cleared. IsCleared (width_of tier) rational before.now v entry.now cleared.numerator cleared.extent) }
+    ensures cleared { IfSome result (λ cleared. IsCleared
+        (width_of tier) rational before.now v entry.now cleared.numerator cleared.extent) }
     ensures fits { IfSome result (λ cleared. FitsSigned w128 cleared.numerator) }
 {
     match entry {
@@ -187,7 +211,8 @@ fn kept_value(before: &Form, v: usize) -> Option<Cleared>
 }
 
 fn given_value(x: &Frac, rational: bool, tier: Tier) -> Option<Cleared>
-    ensures constant { IfSome result (λ cleared. IsTrue rational → IsConstant (width_of tier) x.now cleared.numerator cleared.extent) }
+    ensures constant { IfSome result (λ cleared. IsTrue rational
+        → IsConstant (width_of tier) x.now cleared.numerator cleared.extent) }
     ensures fits { IfSome result (λ cleared. FitsSigned w128 cleared.numerator) }
 {
     let numerator = x.num();

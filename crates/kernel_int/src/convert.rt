@@ -3,7 +3,8 @@ ghost use Rattle.std.specs.Prelude.{◌≡◌, ◌≤◌, ◌<◌, ◌^◌, ℕ,
 ghost use Rattle.op_list.specs.Types.{bits_at, is_whole, is_whole_type, is_rational};
 ghost use Rattle.op_list.specs.Typing.{may_follow, are_good, stage_after};
 ghost use Rattle.op_list.specs.declared.types.PixType.TheVariants.{Rat};
-ghost use Rattle.kernel_int.specs.Forms.{AreKept, AreNarrowed, AreWidened, IsBounded, IsStep, Performs, bits_of, width_of};
+ghost use Rattle.kernel_int.specs.Forms.{AreKept, AreNarrowed, AreWidened, IsBounded, IsStep};
+ghost use Rattle.kernel_int.specs.Forms.{Performs, bits_of, width_of};
 
 use crate::form::{Form, Storage, Tier, kept_form};
 use crate::numerator::Numerator;
@@ -30,8 +31,11 @@ pub fn convert_step<W: WholeNumber, N: Numerator>(
     requires few { after.now.count ≤ 4 }
     requires block { (length values.old ≡ 256) × (length numbers.old ≡ 256) }
     requires bounded { IsBounded W.number N.value stage before.now values.old numbers.old }
-    ensures bounded { IsBounded W.number N.value (stage_after stage (Op.Convert to expand)) after.now values.new numbers.new }
-    ensures holds { Performs W.number N.value stage before.now (Op.Convert to expand) after.now position.now values.old numbers.old values.new numbers.new }
+    ensures bounded { IsBounded W.number N.value
+        (stage_after stage (Op.Convert to expand)) after.now values.new numbers.new }
+    ensures holds { Performs W.number N.value stage before.now
+        (Op.Convert to expand) after.now position.now values.old numbers.old values.new
+        numbers.new }
 {
     match to {
         PixType::Rat => fractions_step(expand, stage, position, before, after, values, numbers),
@@ -56,8 +60,11 @@ fn fractions_step<W: WholeNumber, N: Numerator>(
     requires few { after.now.count ≤ 4 }
     requires block { (length values.now ≡ 256) × (length numbers.old ≡ 256) }
     requires bounded { IsBounded W.number N.value stage before.now values.now numbers.old }
-    ensures bounded { IsBounded W.number N.value (stage_after stage (Op.Convert Rat expand)) after.now values.now numbers.new }
-    ensures holds { Performs W.number N.value stage before.now (Op.Convert Rat expand) after.now position.now values.now numbers.old values.now numbers.new }
+    ensures bounded { IsBounded W.number N.value
+        (stage_after stage (Op.Convert Rat expand)) after.now values.now numbers.new }
+    ensures holds { Performs W.number N.value stage before.now
+        (Op.Convert Rat expand) after.now position.now values.now numbers.old values.now
+        numbers.new }
 {
     if stage.is_whole() {
         widen_step(expand, stage, position, before, after, values, numbers)
@@ -82,8 +89,11 @@ fn whole_step<W: WholeNumber, N: Numerator>(
     requires few { after.now.count ≤ 4 }
     requires block { (length values.old ≡ 256) × (length numbers.now ≡ 256) }
     requires bounded { IsBounded W.number N.value stage before.now values.old numbers.now }
-    ensures bounded { IsBounded W.number N.value (stage_after stage (Op.Convert to expand)) after.now values.new numbers.now }
-    ensures holds { Performs W.number N.value stage before.now (Op.Convert to expand) after.now position.now values.old numbers.now values.new numbers.now }
+    ensures bounded { IsBounded W.number N.value
+        (stage_after stage (Op.Convert to expand)) after.now values.new numbers.now }
+    ensures holds { Performs W.number N.value stage before.now
+        (Op.Convert to expand) after.now position.now values.old numbers.now values.new
+        numbers.now }
 {
     if stage.is_rational() {
         narrow_step(to, expand, stage, position, before, after, values, numbers)
@@ -103,7 +113,8 @@ pub fn convert_form(
     tier: Tier,
 ) -> Option<Form>
     ensures few { IfSome result (λ form. form.count ≤ 4) }
-    ensures step { IfSome result (λ form. IsStep (bits_of storage) (width_of tier) stage before.now (Op.Convert to _expand) form) }
+    ensures step { IfSome result (λ form. IsStep (bits_of storage) (width_of tier) stage before.now
+        (Op.Convert to _expand) form) }
 {
     if stage.is_rational() {
         match to {

@@ -1,5 +1,6 @@
 // The ordered dither: each pixel has a fraction of its own.
-ghost use Rattle.std.specs.Prelude.{◌≡◌, ℕ, pos, ◌+◌, ◌*◌, ◌%◌, ◌^◌, ◌<◌, ◌≤◌, ◌⊎◌, ◌+ℤ◌, ◌*ℤ◌, ◌≤ℤ◌, length, slice_index, slice_index_or, FitsSigned, IfSome};
+ghost use Rattle.std.specs.Prelude.{◌≡◌, ℕ, pos, ◌+◌, ◌*◌, ◌%◌, ◌^◌, ◌<◌, ◌≤◌, ◌⊎◌, ◌+ℤ◌, ◌*ℤ◌};
+ghost use Rattle.std.specs.Prelude.{◌≤ℤ◌, length, slice_index, slice_index_or, FitsSigned, IfSome};
 ghost use Rattle.frac_math.specs.Dither.{digit, dither_at, index};
 ghost use Rattle.frac_math.specs.Fraction.{◌+ℚ◌};
 ghost use Rattle.frac_math.specs.Standing.{Stands};

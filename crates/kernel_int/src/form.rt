@@ -9,7 +9,8 @@ pub struct Extent {
     pub greatest: i128,
 }
 
-/// A factor over `2^shift` that gives the quotients by `d` for numbers up to `bound`, all of 32 bits.
+/// A factor over `2^shift` that gives the quotients by `d` for numbers up to `bound`, all of 32
+/// bits.
 #[derive(Clone, Copy, Debug)]
 pub struct Reciprocal {
     pub d: u32,
@@ -38,12 +39,14 @@ pub enum Divisor {
     Plain,
 }
 
-/// What a block holds after an operation: so many values of each pixel, and for fractions the extent of each.
+/// What a block holds after an operation: so many values of each pixel, and for fractions the
+/// extent of each.
 #[derive(Clone, Copy, Debug)]
 pub struct Form {
     pub count: usize,
     pub extents: [Extent; 4],
-    /// The row of factors and the constant of each value, where the operation before it is a linear map.
+    /// The row of factors and the constant of each value, where the operation before it is a linear
+    /// map.
     pub factors: [[i128; 5]; 4],
     /// The divisor of each value, where the operation before it takes whole numbers from fractions.
     pub divisors: [Divisor; 4],

@@ -1,5 +1,6 @@
 // The least and the greatest sum of a row of factors.
-ghost use Rattle.std.specs.Prelude.{◌≡◌, ◌<◌, ℤ, pos, true, false, IfSome, IsTrue, ◌≤ℤ◌, ◌*ℤ◌, ◌+ℤ◌, ◌⊎◌, FitsSigned};
+ghost use Rattle.std.specs.Prelude.{◌≡◌, ◌<◌, ℤ, pos, true, false, IfSome, IsTrue, ◌≤ℤ◌, ◌*ℤ◌};
+ghost use Rattle.std.specs.Prelude.{◌+ℤ◌, ◌⊎◌, FitsSigned};
 ghost use Rattle.kernel_int.specs.Rules.{IsAdded, IsNextSum};
 ghost use Rattle.kernel_int.specs.Forms.{width_of, factor, extent_at, IsRange};
 

@@ -1,9 +1,11 @@
-// Forms within the width of a list, at 128 bits: four values, each over a denominator that divides the joint one.
+// Forms within the width of a list, at 128 bits: four values, each over a denominator that divides
+// the joint one.
 ghost use Rattle.std.specs.Prelude.{◌≡◌, ◌≤◌, ◌^◌, ℕ, ◌<◌, true, All, slice_index};
 ghost use Rattle.std.specs.Int.{w128};
 ghost use Rattle.kernel_int.specs.ValueSteps.{IsDivided};
 ghost use Rattle.op_list.specs.Apply.{row_of};
-ghost use Rattle.kernel_int.specs.Forms.{AreKept, IsCleared, IsConstant, IsMoved, IsNarrowed, IsWidened, extent_at, factor, factors_at};
+ghost use Rattle.kernel_int.specs.Forms.{AreKept, IsCleared, IsConstant, IsMoved, IsNarrowed};
+ghost use Rattle.kernel_int.specs.Forms.{IsWidened, extent_at, factor, factors_at};
 ghost use Rattle.kernel_int.specs.Joint.{MadeFits, MadeWithin, RowMade, RowWithin};
 
 use crate::form::{Divisor, Extent, Form, NO_DIVISOR};
@@ -13,12 +15,14 @@ use crate::made::Made;
 use frac_math::Frac;
 use op_list::Op;
 
-/// The form after an operation that makes each value from that value alone: e is how many times the joint denominator grows, and d what it becomes.
+/// The form after an operation that makes each value from that value alone: e is how many times the
+/// joint denominator grows, and d what it becomes.
 pub fn joint_made_form(op: &Op, before: &Form, e: u128, d: u128) -> Form
     requires count { before.now.count ≡ 4 }
     requires fits { (v : ℕ) → v < 4 → MadeFits op.now v (extent_at before.now v) e d }
     ensures count { result.count ≡ 4 }
-    ensures made { (v : ℕ) → v < 4 → MadeWithin op.now v (extent_at before.now v) e d (factors_at result v) (extent_at result v) }
+    ensures made { (v : ℕ) → v < 4 → MadeWithin op.now v (extent_at before.now v) e d
+        (factors_at result v) (extent_at result v) }
 {
     let extents = before.extents;
     let mut after = Form {
@@ -38,11 +42,13 @@ pub fn joint_made_form(op: &Op, before: &Form, e: u128, d: u128) -> Form
     after
 }
 
-/// The form after a Linear: e is the least common denominator of its rows, and d the joint denominator before it.
+/// The form after a Linear: e is the least common denominator of its rows, and d the joint
+/// denominator before it.
 pub fn joint_rows_form(rows: &[[Frac; 5]; 4], before: &Form, e: u128, d: u128) -> Form
     requires { (v : ℕ) → v < 4 → RowWithin e d (row_of rows.now v) before.now }
     ensures count { result.count ≡ 4 }
-    ensures rows { (v : ℕ) → v < 4 → RowMade e d (row_of rows.now v) before.now (factors_at result v) (extent_at result v) }
+    ensures rows { (v : ℕ) → v < 4 → RowMade e d (row_of rows.now v) before.now
+        (factors_at result v) (extent_at result v) }
 {
     let extents = before.extents;
     let mut after = Form {

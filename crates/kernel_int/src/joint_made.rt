@@ -1,10 +1,12 @@
-// What an operation makes of each value from that value alone, within the width of a list, at 128 bits.
+// What an operation makes of each value from that value alone, within the width of a list, at 128
+// bits.
 ghost use Rattle.std.specs.Prelude.{◌≡◌, ◌*◌, ◌^◌, ◌<◌, ◌≤◌, pos, IfSome, ◌<ℤ◌, unsigned_abs};
 ghost use Rattle.std.specs.Int.{w128};
 ghost use Rattle.op_range.specs.Width.{limited_size};
 ghost use Rattle.kernel_int.specs.Forms.{factor};
 ghost use Rattle.kernel_int.specs.ValueSteps.{IsAtLeast, IsAtMost, IsMade};
-ghost use Rattle.kernel_int.specs.Joint.{IsLimit, MadeFits, extent_size, made_denominator, made_size};
+ghost use Rattle.kernel_int.specs.Joint.{IsLimit, MadeFits, extent_size, made_denominator};
+ghost use Rattle.kernel_int.specs.Joint.{made_size};
 
 use crate::form::Extent;
 use crate::joint_value::{
@@ -19,10 +21,12 @@ fn joint_min(limit: &Option<Frac>, e: u128, old: &Extent) -> Made
     requires limit { IsLimit e limit.now }
     requires positive { pos 0 <ℤ old.now.denominator }
     requires denominator { unsigned_abs old.now.denominator * e < 2 ^ 126 }
-    requires size { limited_size e (unsigned_abs old.now.denominator) limit.now (extent_size old.now) < 2 ^ 126 }
+    requires size { limited_size e (unsigned_abs old.now.denominator) limit.now
+        (extent_size old.now) < 2 ^ 126 }
     ensures made { IsAtMost w128 old.now limit.now (factor result.factors 0) result.extent }
     ensures denominator { result.extent.denominator ≡ pos (unsigned_abs old.now.denominator * e) }
-    ensures size { extent_size result.extent ≤ limited_size e (unsigned_abs old.now.denominator) limit.now (extent_size old.now) }
+    ensures size { extent_size result.extent
+        ≤ limited_size e (unsigned_abs old.now.denominator) limit.now (extent_size old.now) }
 {
     match limit {
         Some(x) => joint_at_most(x, e, old),
@@ -35,10 +39,12 @@ fn joint_max(limit: &Option<Frac>, e: u128, old: &Extent) -> Made
     requires limit { IsLimit e limit.now }
     requires positive { pos 0 <ℤ old.now.denominator }
     requires denominator { unsigned_abs old.now.denominator * e < 2 ^ 126 }
-    requires size { limited_size e (unsigned_abs old.now.denominator) limit.now (extent_size old.now) < 2 ^ 126 }
+    requires size { limited_size e (unsigned_abs old.now.denominator) limit.now
+        (extent_size old.now) < 2 ^ 126 }
     ensures made { IsAtLeast w128 old.now limit.now (factor result.factors 0) result.extent }
     ensures denominator { result.extent.denominator ≡ pos (unsigned_abs old.now.denominator * e) }
-    ensures size { extent_size result.extent ≤ limited_size e (unsigned_abs old.now.denominator) limit.now (extent_size old.now) }
+    ensures size { extent_size result.extent
+        ≤ limited_size e (unsigned_abs old.now.denominator) limit.now (extent_size old.now) }
 {
     match limit {
         Some(x) => joint_at_least(x, e, old),
@@ -61,11 +67,13 @@ fn places(k: u8) -> u128
     }
 }
 
-/// What an operation makes of value v: e is how many times the joint denominator grows, and d what it becomes.
+/// What an operation makes of value v: e is how many times the joint denominator grows, and d what
+/// it becomes.
 pub fn joint_made(op: &Op, v: usize, old: &Extent, e: u128, d: u128) -> Made
     requires v { v < 4 }
     requires fits { MadeFits op.now v old.now e d }
-    ensures made { IsMade w128 op.now v old.now (factor result.factors 0) (factor result.factors 1) result.extent }
+    ensures made { IsMade w128 op.now v old.now (factor result.factors 0)
+        (factor result.factors 1) result.extent }
     ensures denominator { result.extent.denominator ≡ pos (made_denominator op.now old.now e d) }
     ensures size { extent_size result.extent ≤ made_size op.now v old.now e d }
 {

@@ -2,7 +2,8 @@
 ghost use Rattle.std.specs.Prelude.{◌≡◌, ◌*◌, ◌/◌, ◌^◌, ◌<◌, ◌≤◌, pos, ◌*ℤ◌, ◌<ℤ◌, unsigned_abs};
 ghost use Rattle.std.specs.Int.{w128};
 ghost use Rattle.kernel_int.specs.Forms.{IsRow, IsTerm, extent_at, factor};
-ghost use Rattle.kernel_int.specs.Joint.{IsFactorOf, IsMultiple, RowWithin, extent_size, part, row_most, row_total, term_most};
+ghost use Rattle.kernel_int.specs.Joint.{IsFactorOf, IsMultiple, RowWithin, extent_size, part};
+ghost use Rattle.kernel_int.specs.Joint.{row_most, row_total, term_most};
 ghost use Rattle.op_list.specs.Values.{fraction_in};
 ghost use Rattle.op_range.specs.Width.{size_over};
 
@@ -18,7 +19,8 @@ fn some_factor(coefficient: &Frac, e: u128, d: u128, old: &Extent) -> i128
     requires some { 0 < unsigned_abs coefficient.now.numerator }
     requires there { 0 < extent_size old.now }
     requires size { term_most e d coefficient.now old.now < 2 ^ 126 }
-    ensures value { result ≡ coefficient.now.numerator *ℤ pos (e / coefficient.now.denominator * (d / unsigned_abs old.now.denominator)) }
+    ensures value { result ≡ coefficient.now.numerator
+        *ℤ pos (e / coefficient.now.denominator * (d / unsigned_abs old.now.denominator)) }
     ensures small { unsigned_abs result < 2 ^ 126 }
 {
     times_of(coefficient.num(), times(coefficient, e, d, old))
@@ -26,13 +28,15 @@ fn some_factor(coefficient: &Frac, e: u128, d: u128, old: &Extent) -> i128
 
 fn times(coefficient: &Frac, e: u128, d: u128, old: &Extent) -> u128
     requires positive { pos 0 <ℤ old.now.denominator }
-    requires small { e / coefficient.now.denominator * (d / unsigned_abs old.now.denominator) < 2 ^ 126 }
+    requires small { e / coefficient.now.denominator * (d / unsigned_abs old.now.denominator)
+        < 2 ^ 126 }
     ensures { result ≡ e / coefficient.now.denominator * (d / unsigned_abs old.now.denominator) }
 {
     e / denominator(coefficient) * (d / old.denominator.unsigned_abs())
 }
 
-// The factor of a coefficient over d times e. It is 0 where the value is always 0: no width bounds the coefficient there.
+// The factor of a coefficient over d times e. It is 0 where the value is always 0: no width bounds
+// the coefficient there.
 fn joint_factor(coefficient: &Frac, e: u128, d: u128, old: &Extent) -> i128
     requires positive { pos 0 <ℤ old.now.denominator }
     requires whole { IsMultiple e coefficient.now.denominator }
@@ -40,7 +44,8 @@ fn joint_factor(coefficient: &Frac, e: u128, d: u128, old: &Extent) -> i128
     requires size { term_most e d coefficient.now old.now < 2 ^ 126 }
     ensures term { IsFactorOf old.now coefficient.now result (d * e) }
     ensures small { unsigned_abs result < 2 ^ 126 }
-    ensures size { unsigned_abs result * extent_size old.now ≤ term_most e d coefficient.now old.now }
+    ensures size { unsigned_abs result * extent_size old.now
+        ≤ term_most e d coefficient.now old.now }
 {
     if coefficient.num() == 0 {
         return 0;
@@ -57,7 +62,8 @@ fn row_factor(row: &[Frac; 5], e: u128, d: u128, before: &Form, j: usize) -> i12
     requires j { j < 4 }
     ensures term { IsTerm before.now (fraction_in row.now j) result (d * e) j }
     ensures small { unsigned_abs result < 2 ^ 126 }
-    ensures size { unsigned_abs result * extent_size (extent_at before.now j) ≤ term_most e d (fraction_in row.now j) (extent_at before.now j) }
+    ensures size { unsigned_abs result * extent_size (extent_at before.now j)
+        ≤ term_most e d (fraction_in row.now j) (extent_at before.now j) }
 {
     let extent = before.extents[j];
     let coefficient = row[j];
@@ -68,7 +74,8 @@ fn row_factor(row: &[Frac; 5], e: u128, d: u128, before: &Form, j: usize) -> i12
 // The constant of a row.
 fn row_constant(row: &[Frac; 5], e: u128, d: u128, _before: &Form) -> i128
     requires { RowWithin e d row.now _before.now }
-    ensures value { result *ℤ pos (fraction_in row.now 4).denominator ≡ (fraction_in row.now 4).numerator *ℤ pos (d * e) }
+    ensures value { result *ℤ pos (fraction_in row.now 4).denominator
+        ≡ (fraction_in row.now 4).numerator *ℤ pos (d * e) }
     ensures size { unsigned_abs result ≡ size_over e (fraction_in row.now 4) * d }
 {
     let constant = row[4];

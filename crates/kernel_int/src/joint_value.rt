@@ -1,5 +1,6 @@
 // What an operation makes of one value, within the width of a list, at 128 bits.
-ghost use Rattle.std.specs.Prelude.{◌≡◌, ◌+◌, ◌*◌, ◌/◌, ◌^◌, ◌<◌, ◌≤◌, max, ℕ, pos, ◌*ℤ◌, ◌<ℤ◌, unsigned_abs};
+ghost use Rattle.std.specs.Prelude.{◌≡◌, ◌+◌, ◌*◌, ◌/◌, ◌^◌, ◌<◌, ◌≤◌, max, ℕ, pos, ◌*ℤ◌, ◌<ℤ◌};
+ghost use Rattle.std.specs.Prelude.{unsigned_abs};
 ghost use Rattle.std.specs.Int.{w128};
 ghost use Rattle.frac_math.specs.Fraction.{nat};
 ghost use Rattle.op_range.specs.Width.{size_over};
@@ -57,7 +58,8 @@ pub fn joint_scaled(by: &Frac, old: &Extent) -> Made
     requires denominator { unsigned_abs old.now.denominator * by.now.denominator < 2 ^ 126 }
     requires size { extent_size old.now * unsigned_abs by.now.numerator < 2 ^ 126 }
     ensures made { IsScaled w128 old.now by.now (factor result.factors 0) result.extent }
-    ensures around { IsAround result.extent (unsigned_abs old.now.denominator * by.now.denominator) (extent_size old.now * unsigned_abs by.now.numerator) }
+    ensures around { IsAround result.extent (unsigned_abs old.now.denominator * by.now.denominator)
+        (extent_size old.now * unsigned_abs by.now.numerator) }
 {
     let d = old.denominator.unsigned_abs() * denominator(by);
     let size = size_of(old) * by.num().unsigned_abs();
@@ -71,7 +73,8 @@ pub fn joint_raised(e: u128, old: &Extent) -> Made
     requires denominator { unsigned_abs old.now.denominator * e < 2 ^ 126 }
     requires size { extent_size old.now * e < 2 ^ 126 }
     ensures made { IsScaled w128 old.now (nat 1) (factor result.factors 0) result.extent }
-    ensures around { IsAround result.extent (unsigned_abs old.now.denominator * e) (extent_size old.now * e) }
+    ensures around { IsAround result.extent (unsigned_abs old.now.denominator * e)
+        (extent_size old.now * e) }
 {
     let d = old.denominator.unsigned_abs() * e;
     let size = size_of(old) * e;
@@ -84,10 +87,12 @@ pub fn joint_at_most(limit: &Frac, e: u128, old: &Extent) -> Made
     requires whole { e / limit.now.denominator * limit.now.denominator ≡ e }
     requires positive { pos 0 <ℤ old.now.denominator }
     requires denominator { unsigned_abs old.now.denominator * e < 2 ^ 126 }
-    requires size { max (extent_size old.now * e) (size_over e limit.now * unsigned_abs old.now.denominator) < 2 ^ 126 }
+    requires size { max (extent_size old.now * e)
+        (size_over e limit.now * unsigned_abs old.now.denominator) < 2 ^ 126 }
     ensures made { IsMinimum w128 old.now limit.now (factor result.factors 0) result.extent }
     ensures denominator { result.extent.denominator ≡ pos (unsigned_abs old.now.denominator * e) }
-    ensures size { extent_size result.extent ≤ max (extent_size old.now * e) (size_over e limit.now * unsigned_abs old.now.denominator) }
+    ensures size { extent_size result.extent
+        ≤ max (extent_size old.now * e) (size_over e limit.now * unsigned_abs old.now.denominator) }
 {
     let d = old.denominator.unsigned_abs();
     let cut = number_over_both(limit, e, d);
@@ -110,10 +115,12 @@ pub fn joint_at_least(limit: &Frac, e: u128, old: &Extent) -> Made
     requires whole { e / limit.now.denominator * limit.now.denominator ≡ e }
     requires positive { pos 0 <ℤ old.now.denominator }
     requires denominator { unsigned_abs old.now.denominator * e < 2 ^ 126 }
-    requires size { max (extent_size old.now * e) (size_over e limit.now * unsigned_abs old.now.denominator) < 2 ^ 126 }
+    requires size { max (extent_size old.now * e)
+        (size_over e limit.now * unsigned_abs old.now.denominator) < 2 ^ 126 }
     ensures made { IsMaximum w128 old.now limit.now (factor result.factors 0) result.extent }
     ensures denominator { result.extent.denominator ≡ pos (unsigned_abs old.now.denominator * e) }
-    ensures size { extent_size result.extent ≤ max (extent_size old.now * e) (size_over e limit.now * unsigned_abs old.now.denominator) }
+    ensures size { extent_size result.extent
+        ≤ max (extent_size old.now * e) (size_over e limit.now * unsigned_abs old.now.denominator) }
 {
     let d = old.denominator.unsigned_abs();
     let cut = number_over_both(limit, e, d);
@@ -138,8 +145,11 @@ pub fn joint_dithered(places: u128, d: u128, old: &Extent) -> Made
     requires whole { d / places * places ≡ d }
     requires denominator { (0 < d) × (d < 2 ^ 126) }
     requires size { extent_size old.now * (d / unsigned_abs old.now.denominator) + d < 2 ^ 126 }
-    ensures made { (count : ℕ) → places ≡ 2 * 4 ^ count → IsDithered w128 old.now count (factor result.factors 0) (factor result.factors 1) result.extent }
-    ensures around { IsAround result.extent d (extent_size old.now * (d / unsigned_abs old.now.denominator) + d) }
+    ensures made { (count : ℕ) → places ≡ 2 * 4 ^ count
+        → IsDithered w128 old.now count (factor result.factors 0)
+        (factor result.factors 1) result.extent }
+    ensures around { IsAround result.extent d
+        (extent_size old.now * (d / unsigned_abs old.now.denominator) + d) }
 {
     let k = d / old.denominator.unsigned_abs();
     let size = size_of(old) * k + d;

@@ -30,18 +30,27 @@ impl Model for RowKernel {
 
     ghost view = { λ k. k.ops.items };
 
-    ghost invariant = { λ k. IsKernel k.ops.items k.forms.items (bits_of k.storage) (width_of k.tier) };
+    ghost invariant = { λ k. IsKernel k.ops.items k.forms.items (bits_of k.storage)
+        (width_of k.tier) };
 }
 
 impl RowKernel {
-    /// Runs the list on a row of pixels: each pixel of the row has the elements that the list means, and no other pixel is changed.
-    /// Input and output have the lengths that Read and Write state for `width` and `rows`; the dither goes by y. It takes no memory.
+    /// Runs the list on a row of pixels: each pixel of the row has the elements that the list
+    /// means, and no other pixel is changed. Input and output have the lengths that Read and Write
+    /// state for `width` and `rows`; the dither goes by y. It takes no memory.
     pub fn run_row(&self, input: &[u8], output: &mut [u8], width: u32, rows: u32, row: u32, y: u32)
         requires input { length input.now ≡ read_length self.now width rows }
         requires output { length output.old ≡ frame_length (last_op self.now) width rows }
         requires row { row < rows }
-        ensures row { (x v : ℕ) → x < width → v < sum (planes_of (last_op self.now)) → element_of (elem_of (last_op self.now)) (planes_of (last_op self.now)) output.new (position_at width rows row y x) v ≡ slice_index (run self.now input.now width rows x row y) v }
-        ensures others { (other : PixelPosition) → IsOtherRow width rows row other → (v : ℕ) → element_of (elem_of (last_op self.now)) (planes_of (last_op self.now)) output.new other v ≡ element_of (elem_of (last_op self.now)) (planes_of (last_op self.now)) output.old other v }
+        ensures row { (x v : ℕ) → x < width → v < sum (planes_of (last_op self.now))
+            → element_of (elem_of (last_op self.now)) (planes_of (last_op self.now)) output.new
+            (position_at width rows row y x) v
+            ≡ slice_index (run self.now input.now width rows x row y) v }
+        ensures others { (other : PixelPosition) → IsOtherRow width rows row other → (v : ℕ)
+            → element_of (elem_of (last_op self.now))
+            (planes_of (last_op self.now)) output.new other v
+            ≡ element_of (elem_of (last_op self.now))
+            (planes_of (last_op self.now)) output.old other v }
     {
         match self.storage {
             Storage::Bytes => {
@@ -118,8 +127,13 @@ fn run_stored<W: WholeNumber>(
     requires output { length output.old ≡ frame_length (last_op ops.now) width rows }
     requires row { row < rows }
     requires block { (length values.old ≡ 256) × (length spare.old ≡ 256) }
-    ensures stored { (x v : ℕ) → x < width → v < sum (planes_of (last_op ops.now)) → element_of (elem_of (last_op ops.now)) (planes_of (last_op ops.now)) output.new (position_at width rows row y x) v ≡ slice_index (run ops.now input.now width rows x row y) v }
-    ensures others { (other : PixelPosition) → IsOtherRow width rows row other → (v : ℕ) → element_of (elem_of (last_op ops.now)) (planes_of (last_op ops.now)) output.new other v ≡ element_of (elem_of (last_op ops.now)) (planes_of (last_op ops.now)) output.old other v }
+    ensures stored { (x v : ℕ) → x < width → v < sum (planes_of (last_op ops.now))
+        → element_of (elem_of (last_op ops.now)) (planes_of (last_op ops.now)) output.new
+        (position_at width rows row y x) v
+        ≡ slice_index (run ops.now input.now width rows x row y) v }
+    ensures others { (other : PixelPosition) → IsOtherRow width rows row other → (v : ℕ)
+        → element_of (elem_of (last_op ops.now)) (planes_of (last_op ops.now)) output.new other v
+        ≡ element_of (elem_of (last_op ops.now)) (planes_of (last_op ops.now)) output.old other v }
 {
     match tier {
         Tier::Narrow => {

@@ -1,5 +1,6 @@
 // Values that are held to a limit of their own.
-ghost use Rattle.std.specs.Prelude.{◌≡◌, ℕ, ◌+◌, ◌*◌, ◌<◌, ◌≤◌, ◌⊎◌, ◌*ℤ◌, ◌≤ℤ◌, ◌<ℤ◌, pos, length, slice_index_or, FitsSigned, IfSome};
+ghost use Rattle.std.specs.Prelude.{◌≡◌, ℕ, ◌+◌, ◌*◌, ◌<◌, ◌≤◌, ◌⊎◌, ◌*ℤ◌, ◌≤ℤ◌, ◌<ℤ◌, pos, length};
+ghost use Rattle.std.specs.Prelude.{slice_index_or, FitsSigned, IfSome};
 ghost use Rattle.frac_math.specs.Fraction.{nat};
 ghost use Rattle.kernel_int.specs.Forms.{factor, width_of};
 ghost use Rattle.kernel_int.specs.Rules.{nearest};

@@ -1,7 +1,8 @@
 // A linear map of fractions.
 ghost use Rattle.std.specs.Prelude.{◌≡◌, ℕ, ◌<◌, ◌≤◌, true, length, IfSome, slice_index_or};
 ghost use Rattle.op_list.specs.Typing.{stage_after, may_follow};
-ghost use Rattle.kernel_int.specs.Forms.{IsBounded, IsRow, IsStep, Performs, extent_at, factors_at, width_of};
+ghost use Rattle.kernel_int.specs.Forms.{IsBounded, IsRow, IsStep, Performs, extent_at, factors_at};
+ghost use Rattle.kernel_int.specs.Forms.{width_of};
 ghost use Rattle.op_list.specs.Apply.{row_of};
 
 use crate::common::common_denominator;

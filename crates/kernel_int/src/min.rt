@@ -1,5 +1,6 @@
 // Values that are at most a limit of their own.
-ghost use Rattle.std.specs.Prelude.{◌≡◌, ℕ, ◌+◌, ◌*◌, ◌<◌, ◌≤◌, ◌⊎◌, length, slice_index_or, IfSome};
+ghost use Rattle.std.specs.Prelude.{◌≡◌, ℕ, ◌+◌, ◌*◌, ◌<◌, ◌≤◌, ◌⊎◌, length, slice_index_or};
+ghost use Rattle.std.specs.Prelude.{IfSome};
 ghost use Rattle.op_list.specs.Apply.{at_most};
 ghost use Rattle.kernel_int.specs.Forms.{factor, width_of};
 ghost use Rattle.kernel_int.specs.ValueSteps.{AreIn, IsAtMost, IsMinimum, MakesValue};

@@ -1,5 +1,6 @@
 // Whole numbers as the fields of one number.
-ghost use Rattle.std.specs.Prelude.{◌≡◌, ℕ, ◌+◌, ◌*◌, ◌^◌, ◌<◌, ◌≤◌, ◌⊎◌, true, length, sum, slice_index, slice_index_or, IfSome};
+ghost use Rattle.std.specs.Prelude.{◌≡◌, ℕ, ◌+◌, ◌*◌, ◌^◌, ◌<◌, ◌≤◌, ◌⊎◌, true, length, sum};
+ghost use Rattle.std.specs.Prelude.{slice_index, slice_index_or, IfSome};
 ghost use Rattle.op_list.specs.Types.{bits_at};
 ghost use Rattle.op_list.specs.Typing.{may_follow, are_good, stage_after};
 ghost use Rattle.op_list.specs.Whole.{placed};
@@ -16,7 +17,8 @@ fn packed_pixel<W: WholeNumber>(widths: &[u8; 4], values: &[W], i: usize) -> W
     requires inside { (i < 64) × (length values.now ≡ 256) }
     requires widths { sum widths.now ≤ 32 }
     requires fits { 2 ^ sum widths.now ≤ 2 ^ W.bits }
-    ensures { (d : W) → W.number result ≡ placed widths.now (W.number (slice_index_or values.now i d)) 0
+    ensures { (d : W) → W.number result
+        ≡ placed widths.now (W.number (slice_index_or values.now i d)) 0
         + placed widths.now (W.number (slice_index_or values.now (64 + i) d)) 1
         + placed widths.now (W.number (slice_index_or values.now (128 + i) d)) 2
         + placed widths.now (W.number (slice_index_or values.now (192 + i) d)) 3 }
@@ -41,7 +43,8 @@ fn pack_fields<W: WholeNumber>(widths: &[u8; 4], values: &mut [W])
         + placed widths.now (W.number (slice_index_or values.old (64 + i) d)) 1
         + placed widths.now (W.number (slice_index_or values.old (128 + i) d)) 2
         + placed widths.now (W.number (slice_index_or values.old (192 + i) d)) 3 }
-    ensures kept { (j : ℕ) (d : W) → 64 ≤ j → slice_index_or values.new j d ≡ slice_index_or values.old j d }
+    ensures kept { (j : ℕ) (d : W) → 64 ≤ j
+        → slice_index_or values.new j d ≡ slice_index_or values.old j d }
 {
     for i in 0..64 {
         values[i] = packed_pixel(widths, values, i);
@@ -65,8 +68,11 @@ pub fn pack_step<W: WholeNumber, N: Numerator>(
     requires few { after.now.count ≤ 4 }
     requires block { length values.old ≡ 256 }
     requires bounded { IsBounded W.number N.value stage before.now values.old _numbers.now }
-    ensures bounded { IsBounded W.number N.value (stage_after stage (Op.Pack widths.now)) after.now values.new _numbers.now }
-    ensures holds { Performs W.number N.value stage before.now (Op.Pack widths.now) after.now _position.now values.old _numbers.now values.new _numbers.now }
+    ensures bounded { IsBounded W.number N.value
+        (stage_after stage (Op.Pack widths.now)) after.now values.new _numbers.now }
+    ensures holds { Performs W.number N.value stage before.now
+        (Op.Pack widths.now) after.now _position.now values.old _numbers.now values.new
+        _numbers.now }
 {
     pack_fields(widths, values);
     for v in 1..after.count {
@@ -77,7 +83,8 @@ pub fn pack_step<W: WholeNumber, N: Numerator>(
 /// The form after a Pack.
 pub fn pack_form(widths: &[u8; 4], before: &Form, count: usize) -> Option<Form>
     ensures few { IfSome result (λ form. form.count ≤ 4) }
-    ensures fields { IfSome result (λ form. (j : ℕ) → j < 4 → (j < before.now.count) ⊎ (slice_index widths.now j ≡ 0)) }
+    ensures fields { IfSome result (λ form. (j : ℕ) → j < 4
+        → (j < before.now.count) ⊎ (slice_index widths.now j ≡ 0)) }
 {
     if count > 4 {
         return None;

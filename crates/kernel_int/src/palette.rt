@@ -1,5 +1,6 @@
 // The colours of the pixels of a block, looked up in the palette of a frame.
-ghost use Rattle.std.specs.Prelude.{◌≡◌, ℕ, ◌+◌, ◌*◌, ◌^◌, ◌<◌, ◌≤◌, ◌⊎◌, length, slice_index, slice_index_or};
+ghost use Rattle.std.specs.Prelude.{◌≡◌, ℕ, ◌+◌, ◌*◌, ◌^◌, ◌<◌, ◌≤◌, ◌⊎◌, length, slice_index};
+ghost use Rattle.std.specs.Prelude.{slice_index_or};
 ghost use Rattle.op_list.specs.Pixel.{HasPalette, palette_colours, pixel_count, pixel_number};
 ghost use Rattle.kernel_int.specs.Block.{pixel_at, Holds, AreBelow, colour_byte, colour_in};
 
@@ -35,7 +36,8 @@ fn read_colour<W: WholeNumber>(
     requires indices { start + n ≤ length from.now }
     requires table { table + 1024 ≤ length from.now }
     ensures set { (i : ℕ) (d : W) → i < n
-        → W.number (slice_index_or values.new (64 * v + i) d) ≡ colour_in from.now table (start + i) byte }
+        → W.number (slice_index_or values.new (64 * v + i) d)
+        ≡ colour_in from.now table (start + i) byte }
     ensures small { (i : ℕ) (d : W) → i < 64
         → W.number (slice_index_or values.new (64 * v + i) d) < 2 ^ 8 }
     ensures kept { (j : ℕ) (d : W) → (j < 64 * v) ⊎ (64 * v + 64 ≤ j)

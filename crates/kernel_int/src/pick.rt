@@ -19,8 +19,11 @@ pub fn pick_bytes<W: WholeNumber, const C: usize>(
     requires block { (v < 4) × (n ≤ 64) × (length values.old ≡ 256) }
     requires step { C ≤ 4 }
     requires room { (i : ℕ) → i < n → (start + i * C + 1) ≤ length from.now }
-    ensures set { (i : ℕ) (d : W) → i < n → W.number (slice_index_or values.new (64 * v + i) d) ≡ element U8 from.now (start + i * C) }
-    ensures kept { (j : ℕ) (d : W) → (j < 64 * v) ⊎ (64 * v + n ≤ j) → slice_index_or values.new j d ≡ slice_index_or values.old j d }
+    ensures set { (i : ℕ) (d : W) → i < n
+        → W.number (slice_index_or values.new (64 * v + i) d)
+        ≡ element U8 from.now (start + i * C) }
+    ensures kept { (j : ℕ) (d : W) → (j < 64 * v) ⊎ (64 * v + n ≤ j)
+        → slice_index_or values.new j d ≡ slice_index_or values.old j d }
 {
     for i in 0..n {
         values[64 * v + i] = W::narrow(byte_at(from, start + i * C));
@@ -40,8 +43,11 @@ pub fn pick_words<W: WholeNumber, const C: usize>(
     requires block { (v < 4) × (n ≤ 64) × (length values.old ≡ 256) }
     requires step { C ≤ 4 }
     requires room { (i : ℕ) → i < n → (start + i * C + 1) * 2 ≤ length from.now }
-    ensures set { (i : ℕ) (d : W) → i < n → W.number (slice_index_or values.new (64 * v + i) d) ≡ element U16 from.now (start + i * C) }
-    ensures kept { (j : ℕ) (d : W) → (j < 64 * v) ⊎ (64 * v + n ≤ j) → slice_index_or values.new j d ≡ slice_index_or values.old j d }
+    ensures set { (i : ℕ) (d : W) → i < n
+        → W.number (slice_index_or values.new (64 * v + i) d)
+        ≡ element U16 from.now (start + i * C) }
+    ensures kept { (j : ℕ) (d : W) → (j < 64 * v) ⊎ (64 * v + n ≤ j)
+        → slice_index_or values.new j d ≡ slice_index_or values.old j d }
 {
     for i in 0..n {
         values[64 * v + i] = W::narrow(word_at(from, start + i * C));
@@ -61,8 +67,11 @@ pub fn pick_longs<W: WholeNumber, const C: usize>(
     requires block { (v < 4) × (n ≤ 64) × (length values.old ≡ 256) }
     requires step { C ≤ 4 }
     requires room { (i : ℕ) → i < n → (start + i * C + 1) * 4 ≤ length from.now }
-    ensures set { (i : ℕ) (d : W) → i < n → W.number (slice_index_or values.new (64 * v + i) d) ≡ element U32 from.now (start + i * C) }
-    ensures kept { (j : ℕ) (d : W) → (j < 64 * v) ⊎ (64 * v + n ≤ j) → slice_index_or values.new j d ≡ slice_index_or values.old j d }
+    ensures set { (i : ℕ) (d : W) → i < n
+        → W.number (slice_index_or values.new (64 * v + i) d)
+        ≡ element U32 from.now (start + i * C) }
+    ensures kept { (j : ℕ) (d : W) → (j < 64 * v) ⊎ (64 * v + n ≤ j)
+        → slice_index_or values.new j d ≡ slice_index_or values.old j d }
 {
     for i in 0..n {
         values[64 * v + i] = W::narrow(long_at(from, start + i * C));

@@ -1,5 +1,6 @@
 // The numerators of a block.
-ghost use Rattle.std.specs.Prelude.{◌≡◌, ℕ, ℤ, pos, false, ◌+◌, ◌*◌, ◌^◌, ◌<◌, ◌≤◌, ◌⊎◌, ◌+ℤ◌, ◌*ℤ◌, length, slice_index_or, FitsSigned};
+ghost use Rattle.std.specs.Prelude.{◌≡◌, ℕ, ℤ, pos, false, ◌+◌, ◌*◌, ◌^◌, ◌<◌, ◌≤◌, ◌⊎◌, ◌+ℤ◌};
+ghost use Rattle.std.specs.Prelude.{◌*ℤ◌, length, slice_index_or, FitsSigned};
 ghost use Rattle.kernel_int.specs.Rules.{with_product, nearest, row_sum, lane_numbers, RowFits};
 
 use crate::numerator::Numerator;

@@ -1,5 +1,6 @@
 // The elements of the pixels of a block, read from a frame.
-ghost use Rattle.std.specs.Prelude.{◌≡◌, ℕ, ◌+◌, ◌*◌, ◌^◌, ◌<◌, ◌≤◌, ◌⊎◌, true, length, sum, slice_index_or};
+ghost use Rattle.std.specs.Prelude.{◌≡◌, ℕ, ◌+◌, ◌*◌, ◌^◌, ◌<◌, ◌≤◌, ◌⊎◌, true, length, sum};
+ghost use Rattle.std.specs.Prelude.{slice_index_or};
 ghost use Rattle.op_list.specs.Types.{bits, bytes, is_whole_type};
 ghost use Rattle.op_list.specs.Pixel.{element, element_of, pixel_count, HasElements};
 ghost use Rattle.op_list.specs.declared.types.PixType.TheVariants.{U8, U16, U32};
@@ -24,9 +25,13 @@ fn read_value<W: WholeNumber>(
     requires whole { is_whole_type elem ≡ true }
     requires block { (v < 4) × (n ≤ 64) × (length values.old ≡ 256) }
     requires step { (0 < stride.step) × (stride.step ≤ 4) }
-    requires room { (i : ℕ) → i < n → (stride.start + i * stride.step + 1) * bytes elem ≤ length from.now }
-    ensures set { (i : ℕ) (d : W) → i < n → W.number (slice_index_or values.new (64 * v + i) d) ≡ element elem from.now (stride.start + i * stride.step) }
-    ensures kept { (j : ℕ) (d : W) → (j < 64 * v) ⊎ (64 * v + n ≤ j) → slice_index_or values.new j d ≡ slice_index_or values.old j d }
+    requires room { (i : ℕ) → i < n → (stride.start + i * stride.step + 1) * bytes elem
+        ≤ length from.now }
+    ensures set { (i : ℕ) (d : W) → i < n
+        → W.number (slice_index_or values.new (64 * v + i) d)
+        ≡ element elem from.now (stride.start + i * stride.step) }
+    ensures kept { (j : ℕ) (d : W) → (j < 64 * v) ⊎ (64 * v + n ≤ j)
+        → slice_index_or values.new j d ≡ slice_index_or values.old j d }
 {
     match elem {
         PixType::U8 => read_bytes(from, stride, n, v, values),
@@ -42,8 +47,11 @@ fn read_bytes<W: WholeNumber>(from: &[u8], stride: Stride, n: usize, v: usize, v
     requires block { (v < 4) × (n ≤ 64) × (length values.old ≡ 256) }
     requires step { (0 < stride.step) × (stride.step ≤ 4) }
     requires room { (i : ℕ) → i < n → (stride.start + i * stride.step + 1) ≤ length from.now }
-    ensures set { (i : ℕ) (d : W) → i < n → W.number (slice_index_or values.new (64 * v + i) d) ≡ element U8 from.now (stride.start + i * stride.step) }
-    ensures kept { (j : ℕ) (d : W) → (j < 64 * v) ⊎ (64 * v + n ≤ j) → slice_index_or values.new j d ≡ slice_index_or values.old j d }
+    ensures set { (i : ℕ) (d : W) → i < n
+        → W.number (slice_index_or values.new (64 * v + i) d)
+        ≡ element U8 from.now (stride.start + i * stride.step) }
+    ensures kept { (j : ℕ) (d : W) → (j < 64 * v) ⊎ (64 * v + n ≤ j)
+        → slice_index_or values.new j d ≡ slice_index_or values.old j d }
 {
     match stride.step {
         1 => pick_bytes::<W, 1>(from, stride.start, n, v, values),
@@ -59,8 +67,11 @@ fn read_words<W: WholeNumber>(from: &[u8], stride: Stride, n: usize, v: usize, v
     requires block { (v < 4) × (n ≤ 64) × (length values.old ≡ 256) }
     requires step { (0 < stride.step) × (stride.step ≤ 4) }
     requires room { (i : ℕ) → i < n → (stride.start + i * stride.step + 1) * 2 ≤ length from.now }
-    ensures set { (i : ℕ) (d : W) → i < n → W.number (slice_index_or values.new (64 * v + i) d) ≡ element U16 from.now (stride.start + i * stride.step) }
-    ensures kept { (j : ℕ) (d : W) → (j < 64 * v) ⊎ (64 * v + n ≤ j) → slice_index_or values.new j d ≡ slice_index_or values.old j d }
+    ensures set { (i : ℕ) (d : W) → i < n
+        → W.number (slice_index_or values.new (64 * v + i) d)
+        ≡ element U16 from.now (stride.start + i * stride.step) }
+    ensures kept { (j : ℕ) (d : W) → (j < 64 * v) ⊎ (64 * v + n ≤ j)
+        → slice_index_or values.new j d ≡ slice_index_or values.old j d }
 {
     match stride.step {
         1 => pick_words::<W, 1>(from, stride.start, n, v, values),
@@ -76,8 +87,11 @@ fn read_longs<W: WholeNumber>(from: &[u8], stride: Stride, n: usize, v: usize, v
     requires block { (v < 4) × (n ≤ 64) × (length values.old ≡ 256) }
     requires step { (0 < stride.step) × (stride.step ≤ 4) }
     requires room { (i : ℕ) → i < n → (stride.start + i * stride.step + 1) * 4 ≤ length from.now }
-    ensures set { (i : ℕ) (d : W) → i < n → W.number (slice_index_or values.new (64 * v + i) d) ≡ element U32 from.now (stride.start + i * stride.step) }
-    ensures kept { (j : ℕ) (d : W) → (j < 64 * v) ⊎ (64 * v + n ≤ j) → slice_index_or values.new j d ≡ slice_index_or values.old j d }
+    ensures set { (i : ℕ) (d : W) → i < n
+        → W.number (slice_index_or values.new (64 * v + i) d)
+        ≡ element U32 from.now (stride.start + i * stride.step) }
+    ensures kept { (j : ℕ) (d : W) → (j < 64 * v) ⊎ (64 * v + n ≤ j)
+        → slice_index_or values.new j d ≡ slice_index_or values.old j d }
 {
     match stride.step {
         1 => pick_longs::<W, 1>(from, stride.start, n, v, values),
@@ -87,7 +101,8 @@ fn read_longs<W: WholeNumber>(from: &[u8], stride: Stride, n: usize, v: usize, v
     }
 }
 
-// Fills the first three values of a whole block of bytes, where they stand together and there is a fast way. It answers how many values it filled.
+// Fills the first three values of a whole block of bytes, where they stand together and there is a
+// fast way. It answers how many values it filled.
 fn read_three<W: WholeNumber>(
     elem: PixType,
     planes: &[u8; 4],
@@ -100,9 +115,11 @@ fn read_three<W: WholeNumber>(
     requires inside { (n ≤ 64) × (position.now.x + n ≤ position.now.width) }
     requires block { length values.old ≡ 256 }
     ensures few { result ≤ sum planes.now }
-    ensures set { Holds W.number values.new result n (λ v i. element_of elem planes.now from.now (pixel_at position.now i) v) }
+    ensures set { Holds W.number values.new result n
+        (λ v i. element_of elem planes.now from.now (pixel_at position.now i) v) }
     ensures small { AreBelow W.number values.new result (2 ^ bits elem) }
-    ensures rest { (j : ℕ) (d : W) → 64 * result ≤ j → j < 256 → slice_index_or values.new j d ≡ slice_index_or values.old j d }
+    ensures rest { (j : ℕ) (d : W) → 64 * result ≤ j → j < 256
+        → slice_index_or values.new j d ≡ slice_index_or values.old j d }
 {
     let PixType::U8 = elem else {
         return 0;
@@ -134,7 +151,8 @@ pub fn read_block<W: WholeNumber>(
     requires frame { HasElements elem planes.now from.now position.now }
     requires inside { (n ≤ 64) × (position.now.x + n ≤ position.now.width) }
     requires block { length values.old ≡ 256 }
-    ensures set { Holds W.number values.new 4 n (λ v i. element_of elem planes.now from.now (pixel_at position.now i) v) }
+    ensures set { Holds W.number values.new 4 n
+        (λ v i. element_of elem planes.now from.now (pixel_at position.now i) v) }
     ensures small { AreBelow W.number values.new 4 (2 ^ bits elem) }
 {
     for value in values.iter_mut() {

@@ -44,8 +44,10 @@ pub fn right_shift_step<W: WholeNumber, N: Numerator>(
     requires few { after.now.count ≤ 4 }
     requires block { length values.old ≡ 256 }
     requires bounded { IsBounded W.number N.value stage before.now values.old _numbers.now }
-    ensures bounded { IsBounded W.number N.value (stage_after stage (Op.RightShift n)) after.now values.new _numbers.now }
-    ensures holds { Performs W.number N.value stage before.now (Op.RightShift n) after.now _position.now values.old _numbers.now values.new _numbers.now }
+    ensures bounded { IsBounded W.number N.value
+        (stage_after stage (Op.RightShift n)) after.now values.new _numbers.now }
+    ensures holds { Performs W.number N.value stage before.now
+        (Op.RightShift n) after.now _position.now values.old _numbers.now values.new _numbers.now }
 {
     map_values(values, 64 * after.count, ShiftedRight { n });
 }

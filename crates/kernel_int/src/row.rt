@@ -31,9 +31,15 @@ pub fn run_blocks<W: WholeNumber, N: Numerator>(
     requires from { length from.now ≡ read_length ops.now width rows }
     requires to { length to.old ≡ frame_length (last_op ops.now) width rows }
     requires row { row < rows }
-    requires block { (length values.old ≡ 256) × (length spare.old ≡ 256) × (length numbers.old ≡ 256) × (length sums.old ≡ 256) }
-    ensures stored { (x v : ℕ) → x < width → v < sum (planes_of (last_op ops.now)) → element_of (elem_of (last_op ops.now)) (planes_of (last_op ops.now)) to.new (position_at width rows row y x) v ≡ slice_index (run ops.now from.now width rows x row y) v }
-    ensures others { (other : PixelPosition) → IsOtherRow width rows row other → (v : ℕ) → element_of (elem_of (last_op ops.now)) (planes_of (last_op ops.now)) to.new other v ≡ element_of (elem_of (last_op ops.now)) (planes_of (last_op ops.now)) to.old other v }
+    requires block { (length values.old ≡ 256) × (length spare.old ≡ 256)
+        × (length numbers.old ≡ 256) × (length sums.old ≡ 256) }
+    ensures stored { (x v : ℕ) → x < width → v < sum (planes_of (last_op ops.now))
+        → element_of (elem_of (last_op ops.now)) (planes_of (last_op ops.now)) to.new
+        (position_at width rows row y x) v
+        ≡ slice_index (run ops.now from.now width rows x row y) v }
+    ensures others { (other : PixelPosition) → IsOtherRow width rows row other → (v : ℕ)
+        → element_of (elem_of (last_op ops.now)) (planes_of (last_op ops.now)) to.new other v
+        ≡ element_of (elem_of (last_op ops.now)) (planes_of (last_op ops.now)) to.old other v }
 {
     for block in 0..width.div_ceil(64) {
         let start = block * 64;

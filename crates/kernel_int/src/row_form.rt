@@ -1,5 +1,6 @@
 // The factors of a row of coefficients.
-ghost use Rattle.std.specs.Prelude.{◌≡◌, ℕ, ◌<◌, ◌≤◌, true, pos, IfSome, ◌*ℤ◌, ◌-ℤ◌, ◌<ℤ◌, FitsSigned, unsigned_abs};
+ghost use Rattle.std.specs.Prelude.{◌≡◌, ℕ, ◌<◌, ◌≤◌, true, pos, IfSome, ◌*ℤ◌, ◌-ℤ◌, ◌<ℤ◌};
+ghost use Rattle.std.specs.Prelude.{FitsSigned, unsigned_abs};
 ghost use Rattle.std.specs.Int.{w128};
 ghost use Rattle.kernel_int.specs.Forms.{width_of, factor, IsTerm, IsRow, IsZero};
 

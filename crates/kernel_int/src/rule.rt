@@ -22,8 +22,11 @@ pub trait NumberRule: Copy {
 pub fn map_values<W: WholeNumber, R: NumberRule>(values: &mut [W], count: usize, rule: R)
     requires stands { R.stands rule }
     requires block { (count ≤ 256) × (length values.old ≡ 256) }
-    requires fits { (j : ℕ) (d : W) → j < count → R.makes rule (W.number (slice_index_or values.old j d)) < 2 ^ W.bits }
-    ensures { (j : ℕ) (d : W) → j < count → W.number (slice_index_or values.new j d) ≡ R.makes rule (W.number (slice_index_or values.old j d)) }
+    requires fits { (j : ℕ) (d : W) → j < count
+        → R.makes rule (W.number (slice_index_or values.old j d)) < 2 ^ W.bits }
+    ensures { (j : ℕ) (d : W) → j < count
+        → W.number (slice_index_or values.new j d)
+        ≡ R.makes rule (W.number (slice_index_or values.old j d)) }
 {
     for j in 0..count {
         values[j] = W::narrow(rule.made(values[j].wide()));

@@ -1,5 +1,6 @@
 // Values times a factor of their own.
-ghost use Rattle.std.specs.Prelude.{◌≡◌, ℕ, ◌+◌, ◌*◌, ◌<◌, ◌≤◌, ◌⊎◌, pos, ◌*ℤ◌, ◌<ℤ◌, true, length, slice_index_or, unsigned_abs, FitsSigned, IfSome};
+ghost use Rattle.std.specs.Prelude.{◌≡◌, ℕ, ◌+◌, ◌*◌, ◌<◌, ◌≤◌, ◌⊎◌, pos, ◌*ℤ◌, ◌<ℤ◌, true, length};
+ghost use Rattle.std.specs.Prelude.{slice_index_or, unsigned_abs, FitsSigned, IfSome};
 ghost use Rattle.frac_math.specs.Fraction.{◌*ℚ◌, nat};
 ghost use Rattle.kernel_int.specs.declared.form.Extent.{Extent};
 ghost use Rattle.kernel_int.specs.Forms.{factor, width_of};

@@ -36,7 +36,8 @@ pub fn stride_of(position: &PixelPosition, planes: &[u8; 4], v: usize) -> Stride
     requires row { position.now.row < position.now.rows }
     requires fits { pixel_count position.now * sum planes.now < 2 ^ 64 }
     requires within { v < sum planes.now }
-    ensures start { result.start ≡ element_in (pixel_count position.now) (pixel_number position.now) 0 planes.now v }
+    ensures start { result.start ≡ element_in (pixel_count position.now)
+        (pixel_number position.now) 0 planes.now v }
     ensures step { result.step ≡ step_in planes.now v }
 {
     let pixels = pixel_count(position);

@@ -43,8 +43,10 @@ pub fn swap_bytes_step<W: WholeNumber, N: Numerator>(
     requires few { after.now.count ≤ 4 }
     requires block { length values.old ≡ 256 }
     requires bounded { IsBounded W.number N.value stage before.now values.old _numbers.now }
-    ensures bounded { IsBounded W.number N.value (stage_after stage Op.SwapBytes) after.now values.new _numbers.now }
-    ensures holds { Performs W.number N.value stage before.now Op.SwapBytes after.now _position.now values.old _numbers.now values.new _numbers.now }
+    ensures bounded { IsBounded W.number N.value
+        (stage_after stage Op.SwapBytes) after.now values.new _numbers.now }
+    ensures holds { Performs W.number N.value stage before.now Op.SwapBytes after.now _position.now
+        values.old _numbers.now values.new _numbers.now }
 {
     map_values(
         values,

@@ -1,5 +1,6 @@
 // Rows of hand-made lists, against the evaluation of each pixel by itself.
-ghost use Rattle.std.specs.Prelude.{◌≡◌, ◌≤◌, ◌<◌, ◌+◌, ◌*◌, true, length, sum, if◌then◌else◌, IfSome};
+ghost use Rattle.std.specs.Prelude.{◌≡◌, ◌≤◌, ◌<◌, ◌+◌, ◌*◌, true, length, sum, if◌then◌else◌};
+ghost use Rattle.std.specs.Prelude.{IfSome};
 ghost use Rattle.op_list.specs.Types.{bytes};
 ghost use Rattle.op_list.specs.Typing.{ends_with_write};
 ghost use Rattle.op_list.specs.Pixel.{frame_length};

@@ -1,5 +1,6 @@
 // Whole numbers become fractions.
-ghost use Rattle.std.specs.Prelude.{◌≡◌, ℕ, ◌+◌, ◌*◌, ◌^◌, ◌<◌, ◌≤◌, pos, length, slice_index_or, IfSome, FitsSigned};
+ghost use Rattle.std.specs.Prelude.{◌≡◌, ℕ, ◌+◌, ◌*◌, ◌^◌, ◌<◌, ◌≤◌, pos, length, slice_index_or};
+ghost use Rattle.std.specs.Prelude.{IfSome, FitsSigned};
 ghost use Rattle.op_list.specs.declared.types.PixType.TheVariants.{Rat};
 ghost use Rattle.op_list.specs.Typing.{stage_after};
 ghost use Rattle.kernel_int.specs.Forms.{AreWidened, IsBounded, IsWidened, Performs, width_of};
@@ -14,8 +15,11 @@ use op_list::{Op, PixelPosition, Stage};
 #[inline(never)]
 fn widen<W: WholeNumber, N: Numerator>(values: &[W], n: usize, numbers: &mut [N])
     requires block { (n ≤ 256) × (length values.now ≡ 256) × (length numbers.old ≡ 256) }
-    requires fit { (j : ℕ) (d : W) → j < n → FitsSigned N.width (pos (W.number (slice_index_or values.now j d))) }
-    ensures { (j : ℕ) (d : W) (e : N) → j < n → N.value (slice_index_or numbers.new j e) ≡ pos (W.number (slice_index_or values.now j d)) }
+    requires fit { (j : ℕ) (d : W) → j < n
+        → FitsSigned N.width (pos (W.number (slice_index_or values.now j d))) }
+    ensures { (j : ℕ) (d : W) (e : N) → j < n
+        → N.value (slice_index_or numbers.new j e)
+        ≡ pos (W.number (slice_index_or values.now j d)) }
 {
     for j in 0..n {
         numbers[j] = N::of(i128::from(values[j].wide()));
@@ -36,8 +40,11 @@ pub fn widen_step<W: WholeNumber, N: Numerator>(
     requires few { after.now.count ≤ 4 }
     requires block { (length values.now ≡ 256) × (length numbers.old ≡ 256) }
     requires bounded { IsBounded W.number N.value stage before.now values.now numbers.old }
-    ensures bounded { IsBounded W.number N.value (stage_after stage (Op.Convert Rat expand)) after.now values.now numbers.new }
-    ensures holds { Performs W.number N.value stage before.now (Op.Convert Rat expand) after.now _position.now values.now numbers.old values.now numbers.new }
+    ensures bounded { IsBounded W.number N.value
+        (stage_after stage (Op.Convert Rat expand)) after.now values.now numbers.new }
+    ensures holds { Performs W.number N.value stage before.now
+        (Op.Convert Rat expand) after.now _position.now values.now numbers.old values.now
+        numbers.new }
 {
     widen(values, 64 * after.count, numbers);
 }

@@ -1,11 +1,15 @@
 // Fractions become whole numbers: their floors.
-ghost use Rattle.std.specs.Prelude.{◌≡◌, ℕ, ◌+◌, ◌*◌, ◌/◌, ◌%◌, ◌^◌, ◌<◌, ◌≤◌, ◌⊎◌, ◌≤ℤ◌, ◌<ℤ◌, pos, true, length, slice_index_or, unsigned_abs, IfSome, FitsSigned};
+ghost use Rattle.std.specs.Prelude.{◌≡◌, ℕ, ◌+◌, ◌*◌, ◌/◌, ◌%◌, ◌^◌, ◌<◌, ◌≤◌, ◌⊎◌, ◌≤ℤ◌, ◌<ℤ◌};
+ghost use Rattle.std.specs.Prelude.{pos, true, length, slice_index_or, unsigned_abs, IfSome};
+ghost use Rattle.std.specs.Prelude.{FitsSigned};
 ghost use Rattle.std.specs.Int.{int_div_euclid, w128};
 ghost use Rattle.op_list.specs.Types.{bits, is_whole_type};
 ghost use Rattle.op_list.specs.Typing.{stage_after};
 ghost use Rattle.op_list.specs.Whole.{modulo};
-ghost use Rattle.kernel_int.specs.Forms.{AreNarrowed, IsBounded, IsNarrowed, Performs, bits_of, extent_at, width_of};
-ghost use Rattle.kernel_int.specs.ValueSteps.{AreFloors, AreIn, IsDivided, IsQuotient, IsReciprocal};
+ghost use Rattle.kernel_int.specs.Forms.{AreNarrowed, IsBounded, IsNarrowed, Performs, bits_of};
+ghost use Rattle.kernel_int.specs.Forms.{extent_at, width_of};
+ghost use Rattle.kernel_int.specs.ValueSteps.{AreFloors, AreIn, IsDivided, IsQuotient};
+ghost use Rattle.kernel_int.specs.ValueSteps.{IsReciprocal};
 
 use crate::form::{Divisor, Extent, Form, LongReciprocal, NO_DIVISOR, Reciprocal, Storage, Tier};
 use crate::interval::fits;

@@ -1,5 +1,6 @@
 // The fields of a whole number.
-ghost use Rattle.std.specs.Prelude.{◌≡◌, ℕ, ◌+◌, ◌*◌, ◌/◌, ◌%◌, ◌^◌, ◌<◌, ◌≤◌, ◌⊎◌, true, length, slice_index, slice_index_or, IfSome};
+ghost use Rattle.std.specs.Prelude.{◌≡◌, ℕ, ◌+◌, ◌*◌, ◌/◌, ◌%◌, ◌^◌, ◌<◌, ◌≤◌, ◌⊎◌, true, length};
+ghost use Rattle.std.specs.Prelude.{slice_index, slice_index_or, IfSome};
 ghost use Rattle.op_list.specs.Types.{bits_at};
 ghost use Rattle.op_list.specs.Typing.{may_follow, are_good, stage_after};
 ghost use Rattle.op_list.specs.Whole.{bits_below};
@@ -16,9 +17,13 @@ use op_list::{Op, PixelPosition, Stage, field};
 fn unpack_field<W: WholeNumber>(from: &[W], below: u32, width: u8, to: &mut [W], v: usize)
     requires block { (v < 4) × (length from.now ≡ 256) × (length to.old ≡ 256) }
     requires field { (below ≤ 32) × (width ≤ 32) }
-    requires fits { (i : ℕ) (d : W) → i < 64 → W.number (slice_index_or from.now i d) / 2 ^ below % 2 ^ width < 2 ^ W.bits }
-    ensures set { (i : ℕ) (d : W) → i < 64 → W.number (slice_index_or to.new (64 * v + i) d) ≡ W.number (slice_index_or from.now i d) / 2 ^ below % 2 ^ width }
-    ensures kept { (j : ℕ) (d : W) → (j < 64 * v) ⊎ (64 * v + 64 ≤ j) → slice_index_or to.new j d ≡ slice_index_or to.old j d }
+    requires fits { (i : ℕ) (d : W) → i < 64
+        → W.number (slice_index_or from.now i d) / 2 ^ below % 2 ^ width < 2 ^ W.bits }
+    ensures set { (i : ℕ) (d : W) → i < 64
+        → W.number (slice_index_or to.new (64 * v + i) d) ≡ W.number (slice_index_or from.now i d)
+        / 2 ^ below % 2 ^ width }
+    ensures kept { (j : ℕ) (d : W) → (j < 64 * v) ⊎ (64 * v + 64 ≤ j)
+        → slice_index_or to.new j d ≡ slice_index_or to.old j d }
 {
     for i in 0..64 {
         to[64 * v + i] = W::narrow(field(from[i].wide(), below, width));
@@ -56,8 +61,11 @@ pub fn unpack_step<W: WholeNumber, N: Numerator>(
     requires few { after.now.count ≤ 4 }
     requires block { (length values.old ≡ 256) × (length spare.old ≡ 256) }
     requires bounded { IsBounded W.number N.value stage before.now values.old _numbers.now }
-    ensures bounded { IsBounded W.number N.value (stage_after stage (Op.Unpack widths.now)) after.now values.new _numbers.now }
-    ensures holds { Performs W.number N.value stage before.now (Op.Unpack widths.now) after.now _position.now values.old _numbers.now values.new _numbers.now }
+    ensures bounded { IsBounded W.number N.value
+        (stage_after stage (Op.Unpack widths.now)) after.now values.new _numbers.now }
+    ensures holds { Performs W.number N.value stage before.now
+        (Op.Unpack widths.now) after.now _position.now values.old _numbers.now values.new
+        _numbers.now }
 {
     copy_value(values, 0, spare, 0);
     for v in 0..after.count {

@@ -4,8 +4,10 @@ ghost use Rattle.std.specs.Prelude.{◌≡◌, ℕ, ◌+◌, ◌*◌, ◌<◌, �
 // Value v of a block is value u of another.
 pub fn copy_value<T: Copy>(from: &[T], u: usize, to: &mut [T], v: usize)
     requires block { (u < 4) × (v < 4) × (length from.now ≡ 256) × (length to.old ≡ 256) }
-    ensures set { (i : ℕ) (d : T) → i < 64 → slice_index_or to.new (64 * v + i) d ≡ slice_index_or from.now (64 * u + i) d }
-    ensures kept { (j : ℕ) (d : T) → (j < 64 * v) ⊎ (64 * v + 64 ≤ j) → slice_index_or to.new j d ≡ slice_index_or to.old j d }
+    ensures set { (i : ℕ) (d : T) → i < 64
+        → slice_index_or to.new (64 * v + i) d ≡ slice_index_or from.now (64 * u + i) d }
+    ensures kept { (j : ℕ) (d : T) → (j < 64 * v) ⊎ (64 * v + 64 ≤ j)
+        → slice_index_or to.new j d ≡ slice_index_or to.old j d }
 {
     to[64 * v..64 * v + 64].copy_from_slice(&from[64 * u..64 * u + 64]);
 }
@@ -14,7 +16,8 @@ pub fn copy_value<T: Copy>(from: &[T], u: usize, to: &mut [T], v: usize)
 pub fn fill<T: Copy>(to: &mut [T], v: usize, x: T)
     requires block { (v < 4) × (length to.old ≡ 256) }
     ensures set { (i : ℕ) (d : T) → i < 64 → slice_index_or to.new (64 * v + i) d ≡ x }
-    ensures kept { (j : ℕ) (d : T) → (j < 64 * v) ⊎ (64 * v + 64 ≤ j) → slice_index_or to.new j d ≡ slice_index_or to.old j d }
+    ensures kept { (j : ℕ) (d : T) → (j < 64 * v) ⊎ (64 * v + 64 ≤ j)
+        → slice_index_or to.new j d ≡ slice_index_or to.old j d }
 {
     for i in 0..64 {
         to[64 * v + i] = x;

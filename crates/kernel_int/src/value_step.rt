@@ -2,7 +2,8 @@
 ghost use Rattle.std.specs.Prelude.{◌≡◌, ℕ, ◌+◌, ◌*◌, ◌<◌, ◌≤◌, ◌⊎◌, true, length, slice_index_or};
 ghost use Rattle.op_list.specs.Typing.{stage_after, may_follow, are_good};
 ghost use Rattle.kernel_int.specs.Block.{pixel_at};
-ghost use Rattle.kernel_int.specs.Forms.{IsBounded, Performs, AreMade, extent_at, factor, factors_at};
+ghost use Rattle.kernel_int.specs.Forms.{IsBounded, Performs, AreMade, extent_at, factor};
+ghost use Rattle.kernel_int.specs.Forms.{factors_at};
 ghost use Rattle.kernel_int.specs.ValueSteps.{AreIn, IsMade, MakesValue, is_by_value, makes};
 
 use crate::dither::dither_value;

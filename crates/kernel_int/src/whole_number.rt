@@ -1,4 +1,5 @@
-ghost use Rattle.std.specs.Prelude.{◌≡◌, ℕ, ◌+◌, ◌*◌, ◌^◌, ◌<◌, ◌≤◌, ◌⊎◌, true, false, length, slice_index, slice_index_or};
+ghost use Rattle.std.specs.Prelude.{◌≡◌, ℕ, ◌+◌, ◌*◌, ◌^◌, ◌<◌, ◌≤◌, ◌⊎◌, true, false, length};
+ghost use Rattle.std.specs.Prelude.{slice_index, slice_index_or};
 
 use crate::lanes::{join_block, split_block};
 
@@ -18,20 +19,28 @@ pub trait WholeNumber: Copy {
         requires { n < 2 ^ bits }
         ensures { number result ≡ n };
 
-    /// Splits the three bytes of each of the 64 pixels of a block, which begin at `start`, where there is a fast way for these numbers.
+    /// Splits the three bytes of each of the 64 pixels of a block, which begin at `start`, where
+    /// there is a fast way for these numbers.
     fn split_three(from: &[u8], start: usize, values: &mut [Self]) -> bool
         requires from { start + 192 ≤ length from.now }
         requires block { length values.old ≡ 256 }
-        ensures set { result ≡ true → (v i : ℕ) (d : Self) → v < 3 → i < 64 → number (slice_index_or values.new (64 * v + i) d) ≡ slice_index from.now (start + (3 * i + v)) }
-        ensures rest { (j : ℕ) (d : Self) → 192 ≤ j → j < 256 → slice_index_or values.new j d ≡ slice_index_or values.old j d }
+        ensures set { result ≡ true → (v i : ℕ) (d : Self) → v < 3 → i < 64
+            → number (slice_index_or values.new (64 * v + i) d)
+            ≡ slice_index from.now (start + (3 * i + v)) }
+        ensures rest { (j : ℕ) (d : Self) → 192 ≤ j → j < 256
+            → slice_index_or values.new j d ≡ slice_index_or values.old j d }
         ensures same { result ≡ false → values.new ≡ values.old };
 
-    /// Puts the first three values of the 64 pixels of a block, a byte each, from `start` on, where there is a fast way.
+    /// Puts the first three values of the 64 pixels of a block, a byte each, from `start` on, where
+    /// there is a fast way.
     fn join_three(values: &[Self], start: usize, to: &mut [u8]) -> bool
         requires block { length values.now ≡ 256 }
         requires to { start + 192 ≤ length to.old }
-        ensures set { result ≡ true → (v i : ℕ) (d : Self) → v < 3 → i < 64 → slice_index to.new (start + (3 * i + v)) ≡ number (slice_index_or values.now (64 * v + i) d) }
-        ensures kept { result ≡ true → (k : ℕ) → (k < start) ⊎ (start + 192 ≤ k) → slice_index to.new k ≡ slice_index to.old k }
+        ensures set { result ≡ true → (v i : ℕ) (d : Self) → v < 3 → i < 64
+            → slice_index to.new (start + (3 * i + v))
+            ≡ number (slice_index_or values.now (64 * v + i) d) }
+        ensures kept { result ≡ true → (k : ℕ) → (k < start) ⊎ (start + 192 ≤ k)
+            → slice_index to.new k ≡ slice_index to.old k }
         ensures same { result ≡ false → to.new ≡ to.old };
 }
 

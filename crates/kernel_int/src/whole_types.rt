@@ -1,5 +1,6 @@
 // Whole numbers in another whole type.
-ghost use Rattle.std.specs.Prelude.{◌≡◌, ℕ, ◌*◌, ◌/◌, ◌%◌, ◌^◌, ◌<◌, ◌≤◌, ◌⊎◌, true, length, if◌then◌else◌};
+ghost use Rattle.std.specs.Prelude.{◌≡◌, ℕ, ◌*◌, ◌/◌, ◌%◌, ◌^◌, ◌<◌, ◌≤◌, ◌⊎◌, true, length};
+ghost use Rattle.std.specs.Prelude.{if◌then◌else◌};
 ghost use Rattle.op_list.specs.Types.{bits_at, bits, is_whole, is_whole_type};
 ghost use Rattle.op_list.specs.Typing.{stage_after};
 ghost use Rattle.op_list.specs.Whole.{reversed_bytes};
@@ -53,8 +54,11 @@ pub fn retype_step<W: WholeNumber, N: Numerator>(
     requires few { after.now.count ≤ 4 }
     requires block { length values.old ≡ 256 }
     requires bounded { IsBounded W.number N.value stage before.now values.old _numbers.now }
-    ensures bounded { IsBounded W.number N.value (stage_after stage (Op.Convert to expand)) after.now values.new _numbers.now }
-    ensures holds { Performs W.number N.value stage before.now (Op.Convert to expand) after.now _position.now values.old _numbers.now values.new _numbers.now }
+    ensures bounded { IsBounded W.number N.value
+        (stage_after stage (Op.Convert to expand)) after.now values.new _numbers.now }
+    ensures holds { Performs W.number N.value stage before.now
+        (Op.Convert to expand) after.now _position.now values.old _numbers.now values.new
+        _numbers.now }
 {
     map_values(
         values,

@@ -1,5 +1,6 @@
 // The elements of the pixels of a block, written to a frame.
-ghost use Rattle.std.specs.Prelude.{◌≡◌, ◌≢◌, ℕ, ◌+◌, ◌*◌, ◌^◌, ◌<◌, ◌≤◌, true, length, sum, slice_index_or};
+ghost use Rattle.std.specs.Prelude.{◌≡◌, ◌≢◌, ℕ, ◌+◌, ◌*◌, ◌^◌, ◌<◌, ◌≤◌, true, length, sum};
+ghost use Rattle.std.specs.Prelude.{slice_index_or};
 ghost use Rattle.op_list.specs.declared.position.PixelPosition.{PixelPosition};
 ghost use Rattle.op_list.specs.Types.{bits, bytes, is_whole_type};
 ghost use Rattle.op_list.specs.Pixel.{element, element_of, HasElements};
@@ -22,12 +23,17 @@ fn write_value<W: WholeNumber>(
     to: &mut [u8],
 )
     requires whole { is_whole_type elem ≡ true }
-    requires small { (i : ℕ) (d : W) → i < n → W.number (slice_index_or values.now (64 * v + i) d) < 2 ^ bits elem }
+    requires small { (i : ℕ) (d : W) → i < n
+        → W.number (slice_index_or values.now (64 * v + i) d) < 2 ^ bits elem }
     requires block { (v < 4) × (n ≤ 64) × (length values.now ≡ 256) }
     requires step { (0 < stride.step) × (stride.step ≤ 4) }
-    requires room { (i : ℕ) → i < n → (stride.start + i * stride.step + 1) * bytes elem ≤ length to.old }
-    ensures set { (i : ℕ) (d : W) → i < n → element elem to.new (stride.start + i * stride.step) ≡ W.number (slice_index_or values.now (64 * v + i) d) }
-    ensures kept { (k : ℕ) → ((i : ℕ) → i < n → k ≢ stride.start + i * stride.step) → element elem to.new k ≡ element elem to.old k }
+    requires room { (i : ℕ) → i < n → (stride.start + i * stride.step + 1) * bytes elem
+        ≤ length to.old }
+    ensures set { (i : ℕ) (d : W) → i < n
+        → element elem to.new (stride.start + i * stride.step)
+        ≡ W.number (slice_index_or values.now (64 * v + i) d) }
+    ensures kept { (k : ℕ) → ((i : ℕ) → i < n → k ≢ stride.start + i * stride.step)
+        → element elem to.new k ≡ element elem to.old k }
 {
     match elem {
         PixType::U8 => write_bytes(values, v, n, stride, to),
@@ -39,12 +45,16 @@ fn write_value<W: WholeNumber>(
 
 // The same, of 8 bits.
 fn write_bytes<W: WholeNumber>(values: &[W], v: usize, n: usize, stride: Stride, to: &mut [u8])
-    requires small { (i : ℕ) (d : W) → i < n → W.number (slice_index_or values.now (64 * v + i) d) < 2 ^ 8 }
+    requires small { (i : ℕ) (d : W) → i < n
+        → W.number (slice_index_or values.now (64 * v + i) d) < 2 ^ 8 }
     requires block { (v < 4) × (n ≤ 64) × (length values.now ≡ 256) }
     requires step { (0 < stride.step) × (stride.step ≤ 4) }
     requires room { (i : ℕ) → i < n → (stride.start + i * stride.step + 1) ≤ length to.old }
-    ensures set { (i : ℕ) (d : W) → i < n → element U8 to.new (stride.start + i * stride.step) ≡ W.number (slice_index_or values.now (64 * v + i) d) }
-    ensures kept { (k : ℕ) → ((i : ℕ) → i < n → k ≢ stride.start + i * stride.step) → element U8 to.new k ≡ element U8 to.old k }
+    ensures set { (i : ℕ) (d : W) → i < n
+        → element U8 to.new (stride.start + i * stride.step)
+        ≡ W.number (slice_index_or values.now (64 * v + i) d) }
+    ensures kept { (k : ℕ) → ((i : ℕ) → i < n → k ≢ stride.start + i * stride.step)
+        → element U8 to.new k ≡ element U8 to.old k }
 {
     match stride.step {
         1 => put_bytes::<W, 1>(values, v, n, stride.start, to),
@@ -56,12 +66,16 @@ fn write_bytes<W: WholeNumber>(values: &[W], v: usize, n: usize, stride: Stride,
 
 // The same, of 16 bits.
 fn write_words<W: WholeNumber>(values: &[W], v: usize, n: usize, stride: Stride, to: &mut [u8])
-    requires small { (i : ℕ) (d : W) → i < n → W.number (slice_index_or values.now (64 * v + i) d) < 2 ^ 16 }
+    requires small { (i : ℕ) (d : W) → i < n
+        → W.number (slice_index_or values.now (64 * v + i) d) < 2 ^ 16 }
     requires block { (v < 4) × (n ≤ 64) × (length values.now ≡ 256) }
     requires step { (0 < stride.step) × (stride.step ≤ 4) }
     requires room { (i : ℕ) → i < n → (stride.start + i * stride.step + 1) * 2 ≤ length to.old }
-    ensures set { (i : ℕ) (d : W) → i < n → element U16 to.new (stride.start + i * stride.step) ≡ W.number (slice_index_or values.now (64 * v + i) d) }
-    ensures kept { (k : ℕ) → ((i : ℕ) → i < n → k ≢ stride.start + i * stride.step) → element U16 to.new k ≡ element U16 to.old k }
+    ensures set { (i : ℕ) (d : W) → i < n
+        → element U16 to.new (stride.start + i * stride.step)
+        ≡ W.number (slice_index_or values.now (64 * v + i) d) }
+    ensures kept { (k : ℕ) → ((i : ℕ) → i < n → k ≢ stride.start + i * stride.step)
+        → element U16 to.new k ≡ element U16 to.old k }
 {
     match stride.step {
         1 => put_words::<W, 1>(values, v, n, stride.start, to),
@@ -73,12 +87,16 @@ fn write_words<W: WholeNumber>(values: &[W], v: usize, n: usize, stride: Stride,
 
 // The same, of 32 bits.
 fn write_longs<W: WholeNumber>(values: &[W], v: usize, n: usize, stride: Stride, to: &mut [u8])
-    requires small { (i : ℕ) (d : W) → i < n → W.number (slice_index_or values.now (64 * v + i) d) < 2 ^ 32 }
+    requires small { (i : ℕ) (d : W) → i < n
+        → W.number (slice_index_or values.now (64 * v + i) d) < 2 ^ 32 }
     requires block { (v < 4) × (n ≤ 64) × (length values.now ≡ 256) }
     requires step { (0 < stride.step) × (stride.step ≤ 4) }
     requires room { (i : ℕ) → i < n → (stride.start + i * stride.step + 1) * 4 ≤ length to.old }
-    ensures set { (i : ℕ) (d : W) → i < n → element U32 to.new (stride.start + i * stride.step) ≡ W.number (slice_index_or values.now (64 * v + i) d) }
-    ensures kept { (k : ℕ) → ((i : ℕ) → i < n → k ≢ stride.start + i * stride.step) → element U32 to.new k ≡ element U32 to.old k }
+    ensures set { (i : ℕ) (d : W) → i < n
+        → element U32 to.new (stride.start + i * stride.step)
+        ≡ W.number (slice_index_or values.now (64 * v + i) d) }
+    ensures kept { (k : ℕ) → ((i : ℕ) → i < n → k ≢ stride.start + i * stride.step)
+        → element U32 to.new k ≡ element U32 to.old k }
 {
     match stride.step {
         1 => put_longs::<W, 1>(values, v, n, stride.start, to),
@@ -88,7 +106,8 @@ fn write_longs<W: WholeNumber>(values: &[W], v: usize, n: usize, stride: Stride,
     }
 }
 
-// Writes the first three values of a whole block of bytes, where they stand together and there is a fast way. It answers how many values it wrote.
+// Writes the first three values of a whole block of bytes, where they stand together and there is a
+// fast way. It answers how many values it wrote.
 fn write_three<W: WholeNumber>(
     elem: PixType,
     planes: &[u8; 4],
@@ -101,8 +120,11 @@ fn write_three<W: WholeNumber>(
     requires inside { (n ≤ 64) × (position.now.x + n ≤ position.now.width) }
     requires block { length values.now ≡ 256 }
     ensures few { result ≤ sum planes.now }
-    ensures stored { (v i : ℕ) (d : W) → v < result → i < n → element_of elem planes.now to.new (pixel_at position.now i) v ≡ W.number (slice_index_or values.now (64 * v + i) d) }
-    ensures others { (other : PixelPosition) → IsOutside position.now n other → (v : ℕ) → element_of elem planes.now to.new other v ≡ element_of elem planes.now to.old other v }
+    ensures stored { (v i : ℕ) (d : W) → v < result → i < n
+        → element_of elem planes.now to.new (pixel_at position.now i) v
+        ≡ W.number (slice_index_or values.now (64 * v + i) d) }
+    ensures others { (other : PixelPosition) → IsOutside position.now n other → (v : ℕ)
+        → element_of elem planes.now to.new other v ≡ element_of elem planes.now to.old other v }
 {
     let PixType::U8 = elem else {
         return 0;
@@ -134,8 +156,11 @@ pub fn write_block<W: WholeNumber>(
     requires frame { HasElements elem planes.now to.old position.now }
     requires inside { (n ≤ 64) × (position.now.x + n ≤ position.now.width) }
     requires block { length values.now ≡ 256 }
-    ensures stored { (v i : ℕ) (d : W) → v < sum planes.now → i < n → element_of elem planes.now to.new (pixel_at position.now i) v ≡ W.number (slice_index_or values.now (64 * v + i) d) }
-    ensures others { (other : PixelPosition) → IsOutside position.now n other → (v : ℕ) → element_of elem planes.now to.new other v ≡ element_of elem planes.now to.old other v }
+    ensures stored { (v i : ℕ) (d : W) → v < sum planes.now → i < n
+        → element_of elem planes.now to.new (pixel_at position.now i) v
+        ≡ W.number (slice_index_or values.now (64 * v + i) d) }
+    ensures others { (other : PixelPosition) → IsOutside position.now n other → (v : ℕ)
+        → element_of elem planes.now to.new other v ≡ element_of elem planes.now to.old other v }
 {
     let first = write_three(elem, planes, values, position, n, to);
     for v in first..total(planes) {

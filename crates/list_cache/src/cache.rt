@@ -1,6 +1,7 @@
 ghost use Rattle.std.specs.Prelude.{◌≡◌, ◌<◌, ◌↔◌, true, length, None, IfOk, IfErr, IsOkAnd};
 ghost use Rattle.row_plan.specs.Evaluated.{IsPlannable};
-ghost use Rattle.list_cache.specs.Cells.{cell_numbers, cell_of, known, IsNoteOf, StillKnows, KnowsPair, AgreesOnPlan};
+ghost use Rattle.list_cache.specs.Cells.{cell_numbers, cell_of, known, IsNoteOf, StillKnows};
+ghost use Rattle.list_cache.specs.Cells.{KnowsPair, AgreesOnPlan};
 ghost use Rattle.list_cache.specs.Looks.{plan_of, IsSeen, IsSharedPlan};
 
 use crate::answering::{answer_beside, boxed_plan};

@@ -1,7 +1,8 @@
 // What a look answers, one after another and at once.
 ghost use Rattle.std.specs.Prelude.{◌≡◌, ◌<◌, ◌≤◌, length, IfSome};
 ghost use Rattle.row_plan.specs.Evaluated.{IsPlannable, IsTableSide};
-ghost use Rattle.list_cache.specs.Cells.{KnowsPair, KnowsPlan, cell_numbers, cell_of, known, IsNoteOf};
+ghost use Rattle.list_cache.specs.Cells.{KnowsPair, KnowsPlan, cell_numbers, cell_of, known};
+ghost use Rattle.list_cache.specs.Cells.{IsNoteOf};
 
 use crate::{CellNote, ListCache, Seen};
 use colour_matrix::{Range, named};

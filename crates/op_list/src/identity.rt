@@ -11,8 +11,8 @@ fn identity_coefficient(i: usize, j: usize) -> Frac
     Frac::whole(if j == i { 1 } else { 0 })
 }
 
-/// Whether a row of a linear map gives value i back, for i from 0 to 3: its own coefficient is 1, and the others and the
-/// constant are 0.
+/// Whether a row of a linear map gives value i back, for i from 0 to 3: its own coefficient is 1,
+/// and the others and the constant are 0.
 #[tactic(auto, unfolding(crate::specs::Identity::is_identity_row))]
 pub fn is_identity_row(i: usize, row: &[Frac; 5]) -> bool
     requires { i < 4 }

@@ -53,7 +53,8 @@ fn comps(ranges: &Ranges, used: &Used) -> [CompRange; 4]
     ]
 }
 
-/// What is known of the values after each operation of a whole list, in the order of its operations.
+/// What is known of the values after each operation of a whole list, in the order of its
+/// operations.
 ///
 /// The values of every pixel of every frame of bytes lie between the bounds that are there, are
 /// whole numbers where `whole` is true, and cannot change what Write is given where `used` is

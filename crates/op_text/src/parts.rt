@@ -2,7 +2,10 @@
 ghost use Rattle.std.specs.Prelude.{◌≡◌, ◌++◌, ◌<◌, OnOk, string_bytes, slice_index};
 ghost use Rattle.op_list.specs.Values.{entry};
 ghost use Rattle.op_list.specs.Apply.{row_of};
-ghost use Rattle.op_text.specs.Parts.{type_text, denominator_text, fraction_text, spaced_number, spaced_fraction, numbers_text, entry_text, entries_text, coefficients_text, is_first_shown, separator, row_text, rows_text};
+ghost use Rattle.op_text.specs.Parts.{type_text, denominator_text, fraction_text, spaced_number};
+ghost use Rattle.op_text.specs.Parts.{spaced_fraction, numbers_text, entry_text, entries_text};
+ghost use Rattle.op_text.specs.Parts.{coefficients_text, is_first_shown, separator, row_text};
+ghost use Rattle.op_text.specs.Parts.{rows_text};
 
 use frac_math::{Frac, OutOfMemory};
 use itoa::Buffer;

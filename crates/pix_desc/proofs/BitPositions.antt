@@ -1,5 +1,6 @@
 -- Where the bits of a component stand: in its number, in its pixel, and in a raw frame.
-use Rattle.std.proofs.Common.{◌≡◌, ℕ, ◌+◌, ◌*◌, ◌/◌, ◌%◌, ◌^◌, ◌<◌, ◌≤◌, ⊎_elim, pos, ◌+ℤ◌, ◌*ℤ◌, nat_abs, nat_le, List, All, length, drop, get_or, get_or-drop, mod-lt, pow_pos, sym, ap, subst, ◌∙◌, arith}
+use Rattle.std.proofs.Common.{◌≡◌, ℕ, ◌+◌, ◌*◌, ◌/◌, ◌%◌, ◌^◌, ◌<◌, ◌≤◌, ⊎_elim, pos, ◌+ℤ◌, ◌*ℤ◌, nat_abs, nat_le, List, All, length, drop}
+use Rattle.std.proofs.Common.{get_or, get_or-drop, mod-lt, pow_pos, sym, ap, subst, ◌∙◌, arith}
 use Rattle.std.specs.Int.{bit_at}
 use Rattle.std.proofs.lemmas.Bool.{cases_lt}
 use Rattle.std.proofs.lemmas.Bool.Decides.{nat_tests}

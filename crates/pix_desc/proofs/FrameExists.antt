@@ -1,11 +1,13 @@
 -- The raw frame that is made of values says these values.
-use Rattle.std.proofs.Common.{◌≡◌, ℕ, ◌+◌, ◌*◌, ◌/◌, ◌%◌, ◌<◌, Bool, false, if◌then◌else◌, List, All, length, get_or, add-zero, sym, refl, ap, ◌∙◌, arith}
+use Rattle.std.proofs.Common.{◌≡◌, ℕ, ◌+◌, ◌*◌, ◌/◌, ◌%◌, ◌<◌, Bool, false, if◌then◌else◌, List, All, length, get_or, add-zero, sym, refl}
+use Rattle.std.proofs.Common.{ap, ◌∙◌, arith}
 use Rattle.std.specs.Int.{bit_at}
 use Rattle.std.proofs.lemmas.List.Elements.{All-from_get_or}
 use Rattle.std.proofs.lemmas.Nat.Bits.{same_from_bits_below}
 use Rattle.pix_desc.specs.declared.desc.Desc.{Desc}
 use Rattle.pix_desc.specs.Component.{component_of, bit_of}
-use Rattle.pix_desc.specs.Frame.{plane_step, plane_start, row_start, frame_length, frame_component, frame_of, pixel_byte, reads_pixel_bit, IsFrameOf, FitDepths}
+use Rattle.pix_desc.specs.Frame.{plane_step, plane_start, row_start, frame_length, frame_component, frame_of, pixel_byte, reads_pixel_bit}
+use Rattle.pix_desc.specs.Frame.{IsFrameOf, FitDepths}
 use Rattle.pix_desc.specs.Layouts.{IsLaidOut}
 use Rattle.pix_desc.proofs.BitPositions.{position_of, bit_position_is, bit_of_is, frame_component_below}
 use Rattle.pix_desc.proofs.FrameReads.{IsReadBy, read_inside, frame_bit_by, plane_below}

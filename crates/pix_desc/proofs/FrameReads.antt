@@ -1,5 +1,6 @@
 -- Which bits of a pixel a descriptor's components read.
-use Rattle.std.proofs.Common.{◌≡◌, ℕ, ◌+◌, ◌*◌, ◌<◌, ◌≤◌, ◌≢◌, ⊎_elim, true, ◌&&◌, ℤ, pos, List, [], ◌∷◌, suc, All, length, get_or, nat_eq, eqb-true, eq-eqb, sym, refl, ap, subst, ◌∙◌, arith}
+use Rattle.std.proofs.Common.{◌≡◌, ℕ, ◌+◌, ◌*◌, ◌<◌, ◌≤◌, ◌≢◌, ⊎_elim, true, ◌&&◌, ℤ, pos, List, [], ◌∷◌, suc, All, length, get_or, nat_eq}
+use Rattle.std.proofs.Common.{eqb-true, eq-eqb, sym, refl, ap, subst, ◌∙◌, arith}
 use Rattle.std.specs.Int.{bit_at}
 use Rattle.std.specs.Ordering.{int_eq}
 use Rattle.std.proofs.lemmas.Bool.{cases_lt, cond-false, ne_eqb, and_parts, and_from, both_ways, true_from_ne_false}

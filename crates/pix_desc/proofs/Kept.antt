@@ -1,5 +1,6 @@
 -- Which bits are kept when a component is written, and what components read then.
-use Rattle.std.proofs.Common.{◌≡◌, ◌≢◌, ℕ, ◌+◌, ◌-◌, ◌*◌, ◌/◌, ◌%◌, ◌<◌, ◌≤◌, pos, ◌-ℤ◌, true, false, List, get_or, All, ◌⊎◌, inl, inr, subst, sym, ◌∙◌, ap, arith}
+use Rattle.std.proofs.Common.{◌≡◌, ◌≢◌, ℕ, ◌+◌, ◌-◌, ◌*◌, ◌/◌, ◌%◌, ◌<◌, ◌≤◌, pos, ◌-ℤ◌, true, false, List, get_or, All, ◌⊎◌, inl, inr}
+use Rattle.std.proofs.Common.{subst, sym, ◌∙◌, ap, arith}
 use Rattle.std.specs.Int.{bit_at}
 use Rattle.std.proofs.Math.Nat.{mod-lt}
 use Rattle.std.proofs.lemmas.Bool.{cases_lt, both_ways, false_from_ne_true}
@@ -8,7 +9,8 @@ use Rattle.std.proofs.lemmas.Nat.{pow_pos, same_from_place}
 use Rattle.std.proofs.lemmas.Nat.Bits.{same_from_bits_below}
 use Rattle.pix_desc.specs.declared.desc.Comp.{Comp}
 use Rattle.pix_desc.specs.declared.desc.Desc.{Desc}
-use Rattle.pix_desc.specs.Component.{component_of, component, count_of, first_byte, start_of, number_at, bytes_read, is_narrow, bit_of, bit_position, reads_bit, reads_row_bit, KeepsOtherBits}
+use Rattle.pix_desc.specs.Component.{component_of, component, count_of, first_byte, start_of, number_at, bytes_read, is_narrow, bit_of}
+use Rattle.pix_desc.specs.Component.{bit_position, reads_bit, reads_row_bit, KeepsOtherBits}
 use Rattle.pix_desc.specs.Frame.{plane_step}
 use Rattle.pix_desc.specs.Layouts.{IsValid}
 use Rattle.pix_desc.proofs.BitsOfBytes.{byte_of, IsBitAt, bit_here}

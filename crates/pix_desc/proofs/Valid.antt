@@ -1,8 +1,10 @@
 -- What a descriptor that passes the check is known to be.
-use Rattle.std.proofs.Common.{◌≡◌, ◌≢◌, ℕ, ◌+◌, ◌*◌, ◌<◌, ◌≤◌, pos, negsuc, ℤ, ◌+ℤ◌, Bool, true, false, not, ◌||◌, ◌&&◌, if◌then◌else◌, nat_eq, nat_le, Result, Err, IsOk, List, length, inl, inr, refl, sym, ap, arith}
+use Rattle.std.proofs.Common.{◌≡◌, ◌≢◌, ℕ, ◌+◌, ◌*◌, ◌<◌, ◌≤◌, pos, negsuc, ℤ, ◌+ℤ◌, Bool, true, false, not, ◌||◌, ◌&&◌, if◌then◌else◌}
+use Rattle.std.proofs.Common.{nat_eq, nat_le, Result, Err, IsOk, List, length, inl, inr, refl, sym, ap, arith}
 use Rattle.std.specs.List.{range_with_len, list_any, list_all}
 use Rattle.std.specs.Ordering.{int_eq}
-use Rattle.std.proofs.lemmas.Bool.{both_ways, false≢true, not-false, and_parts, and_cases, eqb-true, eq-eqb, or_parts, cases_order, cases_lt}
+use Rattle.std.proofs.lemmas.Bool.{both_ways, false≢true, not-false, and_parts, and_cases, eqb-true, eq-eqb, or_parts, cases_order}
+use Rattle.std.proofs.lemmas.Bool.{cases_lt}
 use Rattle.std.proofs.lemmas.Bool.Decides.{nat_tests, Decides-int_eq}
 use lib.Signed.{le_z}
 use Rattle.pix_desc.specs.declared.desc.Comp.{Comp}
@@ -10,10 +12,13 @@ use Rattle.pix_desc.specs.declared.desc.Desc.{Desc}
 use Rattle.pix_desc.specs.declared.desc.Layout.{Layout}
 use Rattle.pix_desc.specs.declared.desc.DescFault.{DescFault}
 use Rattle.pix_desc.specs.declared.desc.DescFault.TheVariants.{ComponentCount, DepthRange, Overlap, OutsideStep, MixedLayout, PlaneCount}
-use Rattle.pix_desc.specs.Component.{no_component, components, component_of, bytes_read, first_byte, bit_position, reads_bit, count_of, start_of}
+use Rattle.pix_desc.specs.Component.{no_component, components, component_of, bytes_read, first_byte, bit_position, reads_bit, count_of}
+use Rattle.pix_desc.specs.Component.{start_of}
 use Rattle.pix_desc.specs.Frame.{plane_step}
-use Rattle.pix_desc.specs.Layouts.{IsValid, IsLaidOut, checked, is_count, some_component, some_pair, is_depth, overlap, is_inside, differ_in_step, is_elements, is_word, is_index, is_mixed, has_all_planes}
-use Rattle.pix_desc.proofs.ComponentLists.{list_any-below_false, list_all-below_true, list_all-map_true, length-components, get_or-components, some_component-false, some_component-at, some_pair-false, step_in-plane}
+use Rattle.pix_desc.specs.Layouts.{IsValid, IsLaidOut, checked, is_count, some_component, some_pair, is_depth, overlap, is_inside}
+use Rattle.pix_desc.specs.Layouts.{differ_in_step, is_elements, is_word, is_index, is_mixed, has_all_planes}
+use Rattle.pix_desc.proofs.ComponentLists.{list_any-below_false, list_all-below_true, list_all-map_true, length-components}
+use Rattle.pix_desc.proofs.ComponentLists.{get_or-components, some_component-false, some_component-at, some_pair-false, step_in-plane}
 
 -- no fault's test holds of the descriptor
 pub record HasNoFault (desc : Desc) : Type 0 where

@@ -1,7 +1,9 @@
 // The check of a descriptor.
 ghost use Rattle.std.specs.Prelude.{◌≡◌, ◌≤◌, not, nat_eq, IsTrue, OnOk};
 ghost use Rattle.std.specs.List.{list_any, list_all, range_with_len};
-ghost use Rattle.pix_desc.specs.Layouts.{is_count, some_component, some_two, some_pair, is_depth, overlap, is_inside, differ_in_step, is_byte, is_index, is_mixed, has_all_planes, checked, IsValid};
+ghost use Rattle.pix_desc.specs.Layouts.{is_count, some_component, some_two, some_pair, is_depth};
+ghost use Rattle.pix_desc.specs.Layouts.{overlap, is_inside, differ_in_step, is_byte, is_index};
+ghost use Rattle.pix_desc.specs.Layouts.{is_mixed, has_all_planes, checked, IsValid};
 
 use crate::element_layout::is_elements;
 use crate::positions::{bytes_read, components, first_byte, is_used, overlap};

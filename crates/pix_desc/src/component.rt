@@ -1,7 +1,9 @@
 // One component of a pixel of a plane's row.
-ghost use Rattle.std.specs.Prelude.{◌≡◌, ℕ, ◌+◌, ◌*◌, ◌/◌, ◌%◌, ◌^◌, ◌<◌, ◌≤◌, length, slice_index, IsTrue};
+ghost use Rattle.std.specs.Prelude.{◌≡◌, ℕ, ◌+◌, ◌*◌, ◌/◌, ◌%◌, ◌^◌, ◌<◌, ◌≤◌, length, slice_index};
+ghost use Rattle.std.specs.Prelude.{IsTrue};
 ghost use Rattle.std.specs.Int.{bit_at};
-ghost use Rattle.pix_desc.specs.Component.{component_of, is_narrow, bytes_read, start_of, number_at, component, KeepsOtherBits};
+ghost use Rattle.pix_desc.specs.Component.{component_of, is_narrow, bytes_read, start_of};
+ghost use Rattle.pix_desc.specs.Component.{number_at, component, KeepsOtherBits};
 ghost use Rattle.pix_desc.specs.Layouts.{IsValid};
 
 use crate::positions::{first_byte_index, is_narrow};

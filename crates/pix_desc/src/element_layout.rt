@@ -2,7 +2,8 @@
 ghost use Rattle.std.specs.Prelude.{◌≡◌, ◌≤◌, length};
 ghost use Rattle.std.specs.List.{list_any, list_all};
 ghost use Rattle.pix_desc.specs.Component.{components};
-ghost use Rattle.pix_desc.specs.Layouts.{some_two, differ_in_shape, is_aligned, element_count, is_elements};
+ghost use Rattle.pix_desc.specs.Layouts.{some_two, differ_in_shape, is_aligned, element_count};
+ghost use Rattle.pix_desc.specs.Layouts.{is_elements};
 
 use crate::positions::{bytes_read, components, first_byte_index, is_used};
 use crate::{Comp, Desc};

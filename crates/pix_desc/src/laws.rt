@@ -2,7 +2,8 @@
 ghost use Rattle.std.specs.Prelude.{◌≡◌, ◌≢◌, ◌⊎◌, ℕ, ◌+◌, ◌*◌, ◌<◌, false, List, All};
 ghost use Rattle.std.specs.Int.{bit_at};
 ghost use Rattle.pix_desc.specs.declared.desc.Desc.{Desc};
-ghost use Rattle.pix_desc.specs.Component.{component_of, component, count_of, bit_position, bit_of, KeepsOtherBits};
+ghost use Rattle.pix_desc.specs.Component.{component_of, component, count_of, bit_position, bit_of};
+ghost use Rattle.pix_desc.specs.Component.{KeepsOtherBits};
 ghost use Rattle.pix_desc.specs.Layouts.{IsValid, IsLaidOut};
 ghost use Rattle.pix_desc.specs.Frame.{frame_of, IsFrameOf, HasOneFrame, AgreeWithin};
 

@@ -1,7 +1,8 @@
 // Where a component's bits lie in its pixel.
 ghost use Rattle.std.specs.Prelude.{◌≡◌, ◌-◌, ◌/◌, ◌≤◌, ◌&&◌, not, nat_eq, if◌then◌else◌};
 ghost use Rattle.std.specs.List.{list_any};
-ghost use Rattle.pix_desc.specs.Component.{components, is_narrow, bytes_read, count_of, first_byte, bit_position, reads_bit};
+ghost use Rattle.pix_desc.specs.Component.{components, is_narrow, bytes_read, count_of, first_byte};
+ghost use Rattle.pix_desc.specs.Component.{bit_position, reads_bit};
 ghost use Rattle.pix_desc.specs.Layouts.{share_bit, overlap};
 
 use crate::{Comp, Desc};

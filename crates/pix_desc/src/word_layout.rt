@@ -2,7 +2,9 @@
 ghost use Rattle.std.specs.Prelude.{◌≡◌, ◌≤◌, nat_eq, length};
 ghost use Rattle.std.specs.List.{list_all};
 ghost use Rattle.pix_desc.specs.Component.{components};
-ghost use Rattle.pix_desc.specs.Layouts.{one_a_plane, some_component, word_shift, has_word_bit, is_spare, begins_spare, spare_runs, has_few_fields, is_word};
+ghost use Rattle.pix_desc.specs.Layouts.{one_a_plane, some_component, word_shift, has_word_bit};
+ghost use Rattle.pix_desc.specs.Layouts.{is_spare, begins_spare, spare_runs, has_few_fields};
+ghost use Rattle.pix_desc.specs.Layouts.{is_word};
 
 use crate::positions::{bytes_read, components, first_byte_index};
 use crate::{Comp, Desc};

@@ -22,7 +22,12 @@ impl<R: Read> ReadSource<R> {
 }
 
 impl<R: Read> Source for ReadSource<R> {
-    ghost shown = { λ s. record { bytes = R.remaining s.inner; faults = s.faults; made_with = [] } };
+    ghost shown = { λ s. record {
+      bytes = R.remaining s.inner;
+      faults = s.faults;
+      made_with =
+          [];
+    } };
 
     fn read(&mut self, buf: &mut [u8]) -> Result<usize, Failed> {
         match self.inner.read(buf) {

@@ -13,7 +13,8 @@ use Rattle.colour_matrix.specs.Values.{Values, value_at}
 use Rattle.colour_matrix.proofs.Rows.{same_values}
 use Rattle.pix_meaning.specs.declared.pair.Side.{Side}
 use Rattle.pix_meaning.specs.Pairs.{component_count, depth_of, has_channel, component_at, channel_of, levels_of}
-use Rattle.pix_meaning.specs.Values.{entry_byte, entry_component, source_component, source_value, source_values, rgb_values, target_values, wanted}
+use Rattle.pix_meaning.specs.Values.{entry_byte, entry_component, source_component, source_value, source_values, rgb_values, target_values}
+use Rattle.pix_meaning.specs.Values.{wanted}
 use Rattle.pix_meaning.specs.Target.{clamped, result_of}
 use Rattle.pix_meaning.specs.Laws.{SourcesFit, SlicesAgree}
 use Rattle.pix_meaning.proofs.Channels.{has_channels}

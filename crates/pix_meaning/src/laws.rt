@@ -4,7 +4,8 @@ ghost use Rattle.pix_desc.specs.declared.desc.Desc.{Desc};
 ghost use Rattle.pix_desc.specs.Layouts.{IsValid};
 ghost use Rattle.pix_meaning.specs.declared.pair.Pair.{Pair};
 ghost use Rattle.pix_meaning.specs.Pairs.{IsValidPair};
-ghost use Rattle.pix_meaning.specs.Laws.{HasChannels, PassesLumaAndChroma, PassesCodes, KeepsCodes, SourcesFit, ResultsFit, SlicesAgree, HasOneTargetFrame};
+ghost use Rattle.pix_meaning.specs.Laws.{HasChannels, PassesLumaAndChroma, PassesCodes, KeepsCodes};
+ghost use Rattle.pix_meaning.specs.Laws.{SourcesFit, ResultsFit, SlicesAgree, HasOneTargetFrame};
 ghost use Rattle.pix_meaning.specs.Examples.{WorkedConversions};
 
 /// The components of a format are its channels in another numbering.

@@ -132,5 +132,6 @@ all_converted pair width rows first input output valid plain small size converte
     (has_one_target_frame pair width rows first input valid plain).made in
     let fills = fills_frames pair.to.desc valid.to plain in
     let long = fills.size width rows in
-    elements_make_frame (element_type pair.to.desc) (element_counts pair.to.desc) width rows output (target_rows pair width rows first input)
+    elements_make_frame (element_type pair.to.desc) (element_counts pair.to.desc) width rows output
+    (target_rows pair width rows first input)
     fills.whole (size ∙ long) (made.size ∙ long) small made.bytes converted

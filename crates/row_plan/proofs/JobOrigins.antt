@@ -6,7 +6,8 @@ use Rattle.colour_matrix.specs.declared.class.Range.{Range}
 use Rattle.colour_matrix.specs.declared.class.Range.TheVariants.{Full, Limited}
 use Rattle.pix_meaning.specs.declared.pair.Side.{Side}
 use Rattle.pix_meaning.specs.declared.pair.Pair.{Pair}
-use Rattle.row_plan.specs.Jobs.{flag_number, range_number, signed_number, component_before, components_before, desc_before, side_before, pair_before, BeginsWith, slice_origin}
+use Rattle.row_plan.specs.Jobs.{flag_number, range_number, signed_number, component_before, components_before, desc_before, side_before}
+use Rattle.row_plan.specs.Jobs.{pair_before, BeginsWith, slice_origin}
 
 same_flag : (a b : Bool) → flag_number a ≡ flag_number b → a ≡ b
 same_flag true true same = refl

@@ -1,5 +1,6 @@
 -- The meaning of every conversion, between two packed RGB formats.
-use Rattle.std.proofs.Common.{◌≡◌, ℕ, ◌+◌, ◌-◌, ◌^◌, ◌<◌, ◌≤◌, Bool, true, false, ◌&&◌, ◌||◌, if◌then◌else◌, nat_eq, nat_lt, pos, List, [], refl, sym, ◌∙◌, ap, subst, arith, ltb-true, ltb-false, eqb-true}
+use Rattle.std.proofs.Common.{◌≡◌, ℕ, ◌+◌, ◌-◌, ◌^◌, ◌<◌, ◌≤◌, Bool, true, false, ◌&&◌, ◌||◌, if◌then◌else◌, nat_eq, nat_lt, pos, List, []}
+use Rattle.std.proofs.Common.{refl, sym, ◌∙◌, ap, subst, arith, ltb-true, ltb-false, eqb-true}
 use Rattle.std.proofs.lemmas.Bool.{and_parts}
 use Rattle.frac_math.specs.Fraction.{nat, ◌*ℚ◌, ◌+ℚ◌}
 use Rattle.frac_math.proofs.Ring.{ring, num, ◌⊕◌, ◌⊗◌}

@@ -1,5 +1,6 @@
 -- The peak of the recipe of a pair whose sides are of the classes is below 2^126.
-use Rattle.std.proofs.Common.{◌≡◌, ℕ, zero, suc, ◌-◌, ◌*◌, ◌/◌, ◌^◌, ◌<◌, ◌≤◌, Bool, true, false, not, if◌then◌else◌, List, [], ◌∷◌, ◌++◌, pow_mono}
+use Rattle.std.proofs.Common.{◌≡◌, ℕ, zero, suc, ◌-◌, ◌*◌, ◌/◌, ◌^◌, ◌<◌, ◌≤◌, Bool, true, false, not, if◌then◌else◌, List, [], ◌∷◌, ◌++◌}
+use Rattle.std.proofs.Common.{pow_mono}
 use Rattle.std.proofs.Common.{append_assoc, ltb-true, subst, refl, sym, ◌∙◌, ap, arith}
 use Rattle.std.specs.Prelude.{Option, Some, None}
 use Rattle.std.specs.List.{list_all}
@@ -32,7 +33,8 @@ use Rattle.op_list.proofs.Typed.{typed_fronts}
 use Rattle.op_range.specs.Width.{multiple_with, has_fractions}
 use Rattle.op_build.specs.ElementType.{element_type, is_swapped}
 use Rattle.op_build.specs.Codes.{decoded_type}
-use Rattle.op_build.specs.Recipe.{only_if, channel_slots, missing_codes, slot_channels, spare_zeros, are_plain, over_three, decode, convert, encode, recipe}
+use Rattle.op_build.specs.Recipe.{only_if, channel_slots, missing_codes, slot_channels, spare_zeros, are_plain, over_three, decode, convert}
+use Rattle.op_build.specs.Recipe.{encode, recipe}
 use Rattle.op_build.specs.Recipe.{to_codes_by}
 use Rattle.op_build.specs.SideClasses.{SideClass, side_class, side_classes, IsOneOf}
 use Rattle.op_build.proofs.shape.ElementTypes.{has_type}
@@ -42,7 +44,8 @@ use Rattle.op_build.proofs.bounds.ClassTests.{class_levels, source_ops, target_r
 use Rattle.op_build.proofs.bounds.Pairs.{every_one, then_there, class_list, convert_classes, least_limits, greatest_limits}
 use Rattle.op_build.proofs.bounds.Runs.{recipe_parts}
 use Rattle.op_opt.specs.Peak.{Peaked, given_size, start_peaked, peak_from, peak}
-use Rattle.op_opt.proofs.PeakBounds.{keeps_stage, leaves_whole, whole_list, whole_no_fractions, whole_front, from_whole, no_peak, whole_peaked}
+use Rattle.op_opt.proofs.PeakBounds.{keeps_stage, leaves_whole, whole_list, whole_no_fractions, whole_front, from_whole, no_peak}
+use Rattle.op_opt.proofs.PeakBounds.{whole_peaked}
 use Rattle.op_opt.proofs.PeakBounds.{small_after, small_from, IsUnder, small_along, dither_step, AreLimits, low_under, max_step, min_step}
 use Rattle.row_plan.proofs.PeakTests.{bits_of, greatest_limit, target_is_low, source_is_low}
 use Rattle.row_plan.proofs.PeakClasses.{classes_are_low}

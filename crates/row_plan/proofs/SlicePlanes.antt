@@ -1,5 +1,6 @@
 -- The planes of a slice, and slices put together.
-use Rattle.std.proofs.Common.{◌≡◌, ℕ, zero, suc, ◌+◌, ◌*◌, ◌<◌, ◌≤◌, ⊎_elim, List, [], ◌∷◌, ◌++◌, length, take, drop, length-append, mul-le-mul_right, refl, sym, ◌∙◌, ap, subst, arith}
+use Rattle.std.proofs.Common.{◌≡◌, ℕ, zero, suc, ◌+◌, ◌*◌, ◌<◌, ◌≤◌, ⊎_elim, List, [], ◌∷◌, ◌++◌, length, take, drop, length-append}
+use Rattle.std.proofs.Common.{mul-le-mul_right, refl, sym, ◌∙◌, ap, subst, arith}
 use Rattle.std.specs.Prelude.{sum}
 use Rattle.std.proofs.Math.Seq.{take-add}
 use Rattle.std.proofs.lemmas.Bool.{cases_lt}
@@ -7,7 +8,8 @@ use Rattle.std.proofs.lemmas.List.{append_assoc, drop-drop, drop_at, take_at, le
 use Rattle.pix_desc.specs.declared.desc.Desc.{Desc}
 use Rattle.pix_desc.specs.Frame.{row_length, plane_length, plane_start, row_start, frame_length}
 use Rattle.op_list.proofs.Elements.{sum-cons}
-use Rattle.row_plan.specs.Slices.{plane_rows, planes_before, behind_planes, slice_of, slices_of, joined_plane, joined_planes, behind_first, joined, SlicesAreFrames, SlicesMakeFrame}
+use Rattle.row_plan.specs.Slices.{plane_rows, planes_before, behind_planes, slice_of, slices_of, joined_plane, joined_planes, behind_first}
+use Rattle.row_plan.specs.Slices.{joined, SlicesAreFrames, SlicesMakeFrame}
 
 -- ---- where the rows of a plane stand
 

@@ -18,7 +18,8 @@ use Rattle.op_list.specs.Values.{four}
 use Rattle.pix_meaning.specs.Channels.{channel_depth}
 use Rattle.op_build.specs.ElementType.{element_type}
 use Rattle.op_build.specs.Codes.{decoded_type}
-use Rattle.op_build.specs.SideClasses.{SideClass, side_class_of, side_class, for_each, named_matrices, rgb_depths, yuv_depths, rgb_classes, yuv_classes, side_classes, IsOneOf}
+use Rattle.op_build.specs.SideClasses.{SideClass, side_class_of, side_class, for_each, named_matrices, rgb_depths, yuv_depths, rgb_classes}
+use Rattle.op_build.specs.SideClasses.{yuv_classes, side_classes, IsOneOf}
 use Rattle.row_plan.specs.Evaluated.{IsNamed, side_at}
 use Rattle.row_plan.proofs.Members.{in_first, in_second, in_each, found_one}
 use Rattle.row_plan.proofs.NamedMatrices.{listed_matrix}

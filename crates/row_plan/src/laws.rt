@@ -3,7 +3,8 @@ ghost use Rattle.std.specs.Prelude.{ℕ, List};
 ghost use Rattle.pix_meaning.specs.declared.pair.Pair.{Pair};
 ghost use Rattle.row_plan.specs.Evaluated.{TablePairsFit, TablePairsHavePlans};
 ghost use Rattle.row_plan.specs.PackedRgb.{ArePackedFormats, CopiesPacked};
-ghost use Rattle.row_plan.specs.Slices.{SlicesAreFrames, SlicesMakeFrame, TargetOfSlice, TargetsMakeFrame, WorkedSlices};
+ghost use Rattle.row_plan.specs.Slices.{SlicesAreFrames, SlicesMakeFrame, TargetOfSlice};
+ghost use Rattle.row_plan.specs.Slices.{TargetsMakeFrame, WorkedSlices};
 
 use crate::plans::Plan;
 

@@ -1,5 +1,7 @@
 -- Each step on the table is one event of the claim machine.
-use Rattle.std.proofs.Common.{◌≡◌, ◌≢◌, ℕ, ◌+◌, ◌%◌, ◌^◌, ◌<◌, ◌≤◌, min, true, false, List, [], ◌∷◌, ◌++◌, map, length, get_or, set, Option, Some, None, IfSome, sym, refl, ap, ap₂, ◌∙◌, subst, ⊎_elim, arith, length-set, get_or-set_same, get_or-set_other}
+use Rattle.std.proofs.Common.{◌≡◌, ◌≢◌, ℕ, ◌+◌, ◌%◌, ◌^◌, ◌<◌, ◌≤◌, min, true, false, List, [], ◌∷◌, ◌++◌, map, length, get_or, set, Option}
+use Rattle.std.proofs.Common.{Some, None, IfSome, sym, refl, ap, ap₂, ◌∙◌, subst, ⊎_elim, arith, length-set, get_or-set_same}
+use Rattle.std.proofs.Common.{get_or-set_other}
 use Rattle.std.proofs.lemmas.List.{map-set, map-append}
 use Rattle.std.proofs.lemmas.Bool.{lt-ltb, le-ltb}
 use mathlib.Core.Logic.{dite}
@@ -8,9 +10,12 @@ use native.Mathlib.Decide.{ℕ_discrete, dec_le}
 use lib.ListN.{get_elem?}
 use Rattle.atomic_table.specs.Table.{State, Me, Act, Valid, carried_after, step, keeps, takes, gives, stepped}
 use Rattle.atomic_table.proofs.Lists.{at_set, at_snoc, at_map, set_here, set_else}
-use Rattle.slice_claim.specs.Machine.{HandState, ClaimState, claim, finish, split, join, fresh, ended, IsLive, IsFree, drawn_if, drawn, emptied, kept, joined, after_claim, after_finish, after_split, after_join, only_some, holds_slice, times_held, times_done, IsLawful}
+use Rattle.slice_claim.specs.Machine.{HandState, ClaimState, claim, finish, split, join, fresh, ended, IsLive, IsFree, drawn_if, drawn}
+use Rattle.slice_claim.specs.Machine.{emptied, kept, joined, after_claim, after_finish, after_split, after_join, only_some, holds_slice}
+use Rattle.slice_claim.specs.Machine.{times_held, times_done, IsLawful}
 use Rattle.slice_claim.specs.Rule.{view_with, ended_view, kept_view, given_view, joined_view, IsGiven, hand_of, Shows, Draws}
-use Rattle.slice_claim.specs.Events.{Follows, ClaimIsOneEvent, WorkIsOneEvent, FinishIsOneEvent, SplitIsOneEvent, JoinIsOneEvent, HomeIsDone}
+use Rattle.slice_claim.specs.Events.{Follows, ClaimIsOneEvent, WorkIsOneEvent, FinishIsOneEvent, SplitIsOneEvent, JoinIsOneEvent}
+use Rattle.slice_claim.specs.Events.{HomeIsDone}
 use Rattle.slice_claim.specs.declared.view.View.{View}
 use Rattle.slice_claim.proofs.Sums.{total-append, total-set, there, only_here, only_else, once_in, once_out, once_le}
 use Rattle.slice_claim.proofs.Law.{next_bounded}

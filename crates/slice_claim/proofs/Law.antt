@@ -1,10 +1,13 @@
 -- Each event leads from a lawful state to a lawful state.
-use Rattle.std.proofs.Common.{◌≡◌, ◌≢◌, ℕ, zero, suc, ◌+◌, ◌<◌, ◌≤◌, min, ltb, cond, Bool, true, false, ◌||◌, List, [], ◌∷◌, set, Option, Some, None, IfSome, sym, refl, ap, ◌∙◌, subst, ⊎_elim, arith}
+use Rattle.std.proofs.Common.{◌≡◌, ◌≢◌, ℕ, zero, suc, ◌+◌, ◌<◌, ◌≤◌, min, ltb, cond, Bool, true, false, ◌||◌, List, [], ◌∷◌, set, Option}
+use Rattle.std.proofs.Common.{Some, None, IfSome, sym, refl, ap, ◌∙◌, subst, ⊎_elim, arith}
 use Rattle.std.proofs.lemmas.Bool.{ltb-true, ltb-false, false≢true}
 use mathlib.Core.Option.{some, some-injective, some-ne-none}
 use lib.ListN.{get_elem?}
 use Rattle.atomic_table.proofs.Lists.{at_set, at_snoc, set_else}
-use Rattle.slice_claim.specs.Machine.{HandState, ClaimState, Event, claim, work, finish, split, join, Step, fresh, ended, IsLive, IsFree, drawn_if, emptied, kept, later, joined, after_claim, after_finish, after_split, after_join, share_of, spent_share, only_some, holds_slice, once_below, IsLawfulHand, IsLawful, start}
+use Rattle.slice_claim.specs.Machine.{HandState, ClaimState, Event, claim, work, finish, split, join, Step, fresh, ended, IsLive, IsFree}
+use Rattle.slice_claim.specs.Machine.{drawn_if, emptied, kept, later, joined, after_claim, after_finish, after_split, after_join, share_of}
+use Rattle.slice_claim.specs.Machine.{spent_share, only_some, holds_slice, once_below, IsLawfulHand, IsLawful, start}
 use Rattle.slice_claim.proofs.Sums.{total-append, total-set, total_le, terms_le, only_here, once-more, once_out, once_le}
 
 sooner : (last : Option ℕ) (next : ℕ) → IfSome last (λ k. k < next) → IfSome last (λ k. k < next + 1)

@@ -1,5 +1,6 @@
 -- Each step keeps the rule of a board: it is one event of the claim machine.
-use Rattle.std.proofs.Common.{◌≡◌, ℕ, ◌+◌, ◌%◌, ◌^◌, ◌<◌, ◌≤◌, min, true, List, [], ◌∷◌, ◌++◌, map, length, get_or, set, Option, Some, None, sym, refl, ap, ◌∙◌, subst, arith}
+use Rattle.std.proofs.Common.{◌≡◌, ℕ, ◌+◌, ◌%◌, ◌^◌, ◌<◌, ◌≤◌, min, true, List, [], ◌∷◌, ◌++◌, map, length, get_or, set, Option, Some, None}
+use Rattle.std.proofs.Common.{sym, refl, ap, ◌∙◌, subst, arith}
 use Rattle.std.proofs.lemmas.List.{length-map}
 use mathlib.Core.Logic.{dite}
 use mathlib.Core.Option.{some, none, some-injective}
@@ -7,8 +8,10 @@ use native.Mathlib.Decide.{ℕ_discrete}
 use lib.ListN.{get_elem?}
 use Rattle.atomic_table.specs.Table.{State, Me, step, gives, stepped, opening, Allows, Splits, Joins, Final, Seen}
 use Rattle.atomic_table.proofs.Lists.{at_map, set_else}
-use Rattle.slice_claim.specs.Machine.{Event, claim, finish, split, join, IsLive, IsFree, emptied, share_of, only_some, holds_slice, times_held, once_below, start}
-use Rattle.slice_claim.specs.Rule.{view_with, first_view, ended_view, kept_view, given_view, joined_view, IsGiven, ShowsLawful, Draws, Finishes}
+use Rattle.slice_claim.specs.Machine.{Event, claim, finish, split, join, IsLive, IsFree, emptied, share_of, only_some, holds_slice}
+use Rattle.slice_claim.specs.Machine.{times_held, once_below, start}
+use Rattle.slice_claim.specs.Rule.{view_with, first_view, ended_view, kept_view, given_view, joined_view, IsGiven, ShowsLawful, Draws}
+use Rattle.slice_claim.specs.Rule.{Finishes}
 use Rattle.slice_claim.specs.declared.view.View.{View}
 use Rattle.slice_claim.proofs.Sums.{terms_le, total_none, there, get_or-map, once_in}
 use Rattle.slice_claim.specs.Events.{Follows}

@@ -3,7 +3,8 @@ use Rattle.std.specs.Prelude.{◌≡◌, ℕ, ◌+◌, ◌%◌, ◌^◌, ◌<◌
 use mathlib.Core.Option.{some, none}
 use lib.ListN.{get_elem?}
 use Rattle.atomic_table.specs.Table.{State, Me, Act, gives, Valid, carried_after, stepped, step}
-use Rattle.slice_claim.specs.Machine.{ClaimState, Event, claim, work, finish, split, join, Step, IsLive, IsFree, emptied, times_done, IsLawful}
+use Rattle.slice_claim.specs.Machine.{ClaimState, Event, claim, work, finish, split, join, Step, IsLive, IsFree, emptied, times_done}
+use Rattle.slice_claim.specs.Machine.{IsLawful}
 use Rattle.slice_claim.specs.Rule.{view_with, kept_view, given_view, joined_view, ended_view, IsGiven, Shows, Draws}
 use Rattle.slice_claim.specs.declared.view.View.{View}
 

@@ -28,7 +28,8 @@ impl<J> Hand<J> {
     /// share is below 2^32, as of a hand from `Board::new`, of the parts that such a hand was
     /// split into, and of these joined again; no other clause bounds it.
     pub fn share(&self) -> u32
-        ensures exact { (hand_state self.now).share < 2 ^ 32 → result ≡ (hand_state self.now).share }
+        ensures exact { (hand_state self.now).share < 2 ^ 32
+            → result ≡ (hand_state self.now).share }
         ensures modulo { result ≡ (hand_state self.now).share % 2 ^ 32 }
     {
         self.share

@@ -1,5 +1,6 @@
 // Two hands that take turns, by hand, and boards at their edges.
-ghost use Rattle.std.specs.Prelude.{◌≡◌, ◌≤◌, ◌<◌, ◌*◌, [], ◌∷◌, false, true, None, Some, IfOk, length};
+ghost use Rattle.std.specs.Prelude.{◌≡◌, ◌≤◌, ◌<◌, ◌*◌, [], ◌∷◌, false, true, None, Some, IfOk};
+ghost use Rattle.std.specs.Prelude.{length};
 ghost use Rattle.slice_claim.specs.Machine.{IsFree};
 ghost use Rattle.slice_claim.specs.Board.{hand_state, IsHandOf, IsJobOf, AreNumbered};
 

@@ -1,5 +1,6 @@
 -- Frames that are made one after the other.
-use Rattle.std.proofs.Common.{◌≡◌, ℕ, zero, suc, ◌+◌, ◌*◌, ◌<◌, ◌≤◌, List, ◌++◌, length, take, drop, false, refl, sym, ap, ap₂, ◌∙◌, arith, take_at, drop_at, add-one}
+use Rattle.std.proofs.Common.{◌≡◌, ℕ, zero, suc, ◌+◌, ◌*◌, ◌<◌, ◌≤◌, List, ◌++◌, length, take, drop, false, refl, sym, ap, ap₂, ◌∙◌, arith}
+use Rattle.std.proofs.Common.{take_at, drop_at, add-one}
 use Rattle.std.proofs.Common.{length-append}
 use native.Mathlib.Nat.{mul-le-mul_right}
 use Rattle.std.specs.Prelude.{sum}

@@ -1,5 +1,6 @@
 -- A line of the stream depends on its own bytes alone.
-use Rattle.std.proofs.Common.{◌≡◌, ℕ, ◌+◌, ◌<◌, ◌≤◌, Bool, true, false, cond, ◌||◌, List, [], ◌∷◌, ◌++◌, length, take, drop, refl, sym, ap, ◌∙◌, subst, inl, inr, arith, length-append, append_assoc, length-take-le, take-append-drop, append-nil}
+use Rattle.std.proofs.Common.{◌≡◌, ℕ, ◌+◌, ◌<◌, ◌≤◌, Bool, true, false, cond, ◌||◌, List, [], ◌∷◌, ◌++◌, length, take, drop, refl, sym, ap}
+use Rattle.std.proofs.Common.{◌∙◌, subst, inl, inr, arith, length-append, append_assoc, length-take-le, take-append-drop, append-nil}
 use Rattle.std.specs.Prelude.{None, Some, Result, Ok, Err, IsErr}
 use Rattle.std.specs.List.{list_any}
 use Rattle.std.proofs.Math.Seq.{take-append-add}
@@ -15,7 +16,8 @@ use Rattle.y4m_io.specs.Tags.{tags_of}
 use Rattle.y4m_io.specs.HeaderLine.{HeaderLine, header_in, with_size, header_of, header_cut}
 use Rattle.y4m_io.specs.FrameLine.{frame_line_in, frame_line_cut}
 use Rattle.y4m_io.specs.LineKinds.{is_front, has_word, wrong_word, cut_off, line_in}
-use Rattle.y4m_io.proofs.LineFronts.{line_of-append, line_cut-whole, line_cut-long, line_cut-short, is_front-front, is_front-word, line_in-whole, line_in-short}
+use Rattle.y4m_io.proofs.LineFronts.{line_of-append, line_cut-whole, line_cut-long, line_cut-short, is_front-front, is_front-word}
+use Rattle.y4m_io.proofs.LineFronts.{line_in-whole, line_in-short}
 use Rattle.y4m_io.proofs.LineCuts.{header_cut-line, frame_line_cut-line}
 
 -- either no byte is a newline, or the line is followed by one

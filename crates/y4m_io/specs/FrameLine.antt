@@ -1,7 +1,8 @@
 -- The line in front of a frame (yuv4mpeg(5), "FRAME HEADER").
 use Rattle.std.specs.Prelude.{ℕ, ◌+◌, Bool, List, [], ◌∷◌, length, Option, None, Some, Result, Ok, Err, codes, if◌then◌else◌}
 use Rattle.y4m_io.specs.declared.fault.StreamFault.{StreamFault}
-use Rattle.y4m_io.specs.declared.fault.StreamFault.TheVariants.{NoMagic, LineTooLong, BadTag, NoSize, BadSize, BadColour, NoFrameLine, Truncated}
+use Rattle.y4m_io.specs.declared.fault.StreamFault.TheVariants.{NoMagic, LineTooLong, BadTag, NoSize, BadSize, BadColour, NoFrameLine}
+use Rattle.y4m_io.specs.declared.fault.StreamFault.TheVariants.{Truncated}
 use Rattle.y4m_io.specs.Lines.{line_cut, agrees}
 
 -- what a frame line begins with

@@ -1,11 +1,13 @@
 -- What a header line says (yuv4mpeg(5), "STREAM HEADER").
-use Rattle.std.specs.Prelude.{◌≡◌, ◌≤◌, true, ℕ, ◌+◌, ◌*◌, Bool, ◌&&◌, ◌||◌, List, length, slice_index, Option, None, Some, Result, Ok, Err, nat_lt, nat_le, if◌then◌else◌}
+use Rattle.std.specs.Prelude.{◌≡◌, ◌≤◌, true, ℕ, ◌+◌, ◌*◌, Bool, ◌&&◌, ◌||◌, List, length, slice_index, Option, None, Some, Result, Ok, Err}
+use Rattle.std.specs.Prelude.{nat_lt, nat_le, if◌then◌else◌}
 use Rattle.std.specs.List.{list_all}
 use Rattle.std.specs.Option.{option_and_then, ok_or}
 use Rattle.std.specs.Char.{is_ascii_digit}
 use Rattle.std.specs.Str.Parse.{digits_value}
 use Rattle.y4m_io.specs.declared.fault.StreamFault.{StreamFault}
-use Rattle.y4m_io.specs.declared.fault.StreamFault.TheVariants.{NoMagic, LineTooLong, BadTag, NoSize, BadSize, BadColour, NoFrameLine, Truncated}
+use Rattle.y4m_io.specs.declared.fault.StreamFault.TheVariants.{NoMagic, LineTooLong, BadTag, NoSize, BadSize, BadColour, NoFrameLine}
+use Rattle.y4m_io.specs.declared.fault.StreamFault.TheVariants.{Truncated}
 use Rattle.y4m_io.specs.declared.header.Header.{Header}
 use Rattle.y4m_io.specs.Lines.{is_newline, line_cut, agrees}
 use Rattle.y4m_io.specs.Tags.{magic, is_space, tags_of, letter, is_known_tag, text_of, range_of}

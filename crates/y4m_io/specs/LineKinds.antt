@@ -3,7 +3,8 @@ use Rattle.std.specs.Prelude.{◌≡◌, ℕ, ◌+◌, ◌<◌, ◌≤◌, Bool,
 use Rattle.pix_io.specs.Shown.{Shown}
 use Rattle.pix_io.specs.Streams.{Takes}
 use Rattle.y4m_io.specs.declared.fault.StreamFault.{StreamFault}
-use Rattle.y4m_io.specs.declared.fault.StreamFault.TheVariants.{NoMagic, LineTooLong, BadTag, NoSize, BadSize, BadColour, NoFrameLine, Truncated}
+use Rattle.y4m_io.specs.declared.fault.StreamFault.TheVariants.{NoMagic, LineTooLong, BadTag, NoSize, BadSize, BadColour, NoFrameLine}
+use Rattle.y4m_io.specs.declared.fault.StreamFault.TheVariants.{Truncated}
 use Rattle.y4m_io.specs.declared.line.LineKind.{LineKind}
 use Rattle.y4m_io.specs.declared.line.LineKind.TheVariants.{Header, Frame}
 use Rattle.y4m_io.specs.Lines.{line_cut}

@@ -3,7 +3,8 @@ ghost use Rattle.std.specs.Prelude.{◌≡◌, [], Ok, IfSome, IfErr, OnErr};
 ghost use Rattle.pix_io.specs.Faults.{HasCause};
 ghost use Rattle.pix_io.specs.Streams.{Takes, HasEnded};
 ghost use Rattle.y4m_io.specs.FrameLine.{IsFrameLineFault};
-ghost use Rattle.y4m_io.specs.Reading.{line_fault, line_reads, TakesFront, TakesOpen, TakesFrameLine, IsNoFrameLine};
+ghost use Rattle.y4m_io.specs.Reading.{line_fault, line_reads, TakesFront, TakesOpen};
+ghost use Rattle.y4m_io.specs.Reading.{TakesFrameLine, IsNoFrameLine};
 
 use crate::line::{LINE_SIZE, LineKind, read_line};
 use crate::{FrameLine, LineEnd};

@@ -3,7 +3,8 @@ ghost use Rattle.std.specs.Prelude.{◌≡◌, option_copied, Ok, Err, IfSome, I
 ghost use Rattle.pix_io.specs.Faults.{HasCause};
 ghost use Rattle.y4m_io.specs.Tags.{tags_in};
 ghost use Rattle.y4m_io.specs.HeaderLine.{colour_of, header_of, IsHeaderFault, IsSoundHeader};
-ghost use Rattle.y4m_io.specs.Reading.{header_fault, header_reads, TakesFront, TakesOpen, TakesHeader, IsNoHeader};
+ghost use Rattle.y4m_io.specs.Reading.{header_fault, header_reads, TakesFront, TakesOpen};
+ghost use Rattle.y4m_io.specs.Reading.{TakesHeader, IsNoHeader};
 
 use crate::line::{LINE_SIZE, LineKind, read_line};
 use crate::size::size;

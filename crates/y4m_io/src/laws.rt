@@ -1,5 +1,6 @@
 // The laws of the grammar, each the contract of a function.
-ghost use Rattle.std.specs.Prelude.{◌≡◌, ◌≤◌, ◌<◌, ℕ, false, List, ◌++◌, length, take, Some, Ok, IsErr};
+ghost use Rattle.std.specs.Prelude.{◌≡◌, ◌≤◌, ◌<◌, ℕ, false, List, ◌++◌, length, take, Some, Ok};
+ghost use Rattle.std.specs.Prelude.{IsErr};
 ghost use Rattle.std.specs.List.{list_any};
 ghost use Rattle.y4m_io.specs.Lines.{is_newline};
 ghost use Rattle.y4m_io.specs.HeaderLine.{HeaderLine, header_cut};

@@ -5,7 +5,8 @@ ghost use Rattle.pix_io.specs.Streams.{Takes, HasEnded};
 ghost use Rattle.y4m_io.specs.Lines.{agrees};
 ghost use Rattle.y4m_io.specs.HeaderLine.{is_header_front};
 ghost use Rattle.y4m_io.specs.Reading.{line_fault, line_reads, TakesFront, TakesOpen};
-ghost use Rattle.y4m_io.specs.LineKinds.{is_front, wrong_word, cut_off, IsNoLine, TakesLine, IsLineFault};
+ghost use Rattle.y4m_io.specs.LineKinds.{is_front, wrong_word, cut_off, IsNoLine, TakesLine};
+ghost use Rattle.y4m_io.specs.LineKinds.{IsLineFault};
 
 use crate::{LineEnd, StreamFault};
 use pix_io::Source;

@@ -1,7 +1,8 @@
 // The formats of a stream, and their C tags.
 ghost use Rattle.std.specs.Prelude.{◌≡◌, map, option_copied, IsTrue, ◌↔◌};
 ghost use Rattle.std.specs.Option.{option_map};
-ghost use Rattle.y4m_io.specs.StreamFormats.{colour_spaces, space_with_text, space_with_name, format_of_text, text_of_format, is_stream_format};
+ghost use Rattle.y4m_io.specs.StreamFormats.{colour_spaces, space_with_text, space_with_name};
+ghost use Rattle.y4m_io.specs.StreamFormats.{format_of_text, text_of_format, is_stream_format};
 ghost use Rattle.y4m_io.specs.Spaces.{space_of};
 
 use desc_table::{FormatId, find, name};

@@ -1,7 +1,8 @@
 // The tags of a header line.
 ghost use Rattle.std.specs.Prelude.{◌≡◌, option_copied};
 ghost use Rattle.std.specs.List.{list_all};
-ghost use Rattle.y4m_io.specs.Tags.{tags_in, has_letter, is_known_tag, text_of, range_named, range_of};
+ghost use Rattle.y4m_io.specs.Tags.{tags_in, has_letter, is_known_tag, text_of, range_named};
+ghost use Rattle.y4m_io.specs.Tags.{range_of};
 
 use colour_matrix::Range;
 

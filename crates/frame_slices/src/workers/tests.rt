@@ -1,7 +1,8 @@
 // Two hands that take turns over three slices, by hand.
 ghost use Rattle.std.specs.Prelude.{◌≡◌, ◌<◌, All, IfOk, Some, None, false, true, length, map};
 ghost use Rattle.slice_claim.specs.Machine.{IsFree, fresh};
-ghost use Rattle.slice_claim.specs.Board.{job_count, hand_state, origins_of, IsHandOf, IsJobOf, AreNumbered};
+ghost use Rattle.slice_claim.specs.Board.{job_count, hand_state, origins_of, IsHandOf, IsJobOf};
+ghost use Rattle.slice_claim.specs.Board.{AreNumbered};
 ghost use Rattle.pix_desc.specs.Layouts.{IsValid};
 ghost use Rattle.row_plan.specs.Evaluated.{IsTableSide};
 ghost use Rattle.row_plan.specs.Jobs.{job_number, job_origin, BeginsWith};

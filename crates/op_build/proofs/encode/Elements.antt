@@ -38,7 +38,8 @@ use Rattle.op_build.proofs.shape.ByteNumbers.{in_order}
 use Rattle.op_build.proofs.shape.ElementTypes.{has_type}
 use Rattle.op_build.proofs.encode.Packed.{packed_fields}
 use Rattle.op_build.proofs.encode.Runs.{encode_by, run_shift, run_pack}
-use Rattle.op_build.proofs.encode.Slots.{GivesValues, made, position_again, placed, number_of, number_below, type_bits, slot_written, element_written}
+use Rattle.op_build.proofs.encode.Slots.{GivesValues, made, position_again, placed, number_of, number_below, type_bits, slot_written}
+use Rattle.op_build.proofs.encode.Slots.{element_written}
 use Rattle.op_build.proofs.shape.SlotBits.{element_bits, are_element_bits, field_bits, are_field_bits}
 
 encode_is : (desc : Desc) (join : Op)

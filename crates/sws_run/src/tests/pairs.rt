@@ -1,7 +1,9 @@
-// Frames of 2x1 pixels of random bytes: each format of the table but pal8 is the source once and the target once. The expected bytes
-// come from a reference in exact fractions that was written apart from this program.
+// Frames of one or two pixels of random bytes: each format of the table but pal8 is the source once
+// and the target once. The expected bytes come from a reference in exact fractions that was written
+// apart from this program.
 
-// The two formats and the size, the bytes of a source frame and those of its target frame, in hexadecimal digits.
+// The two formats and the size, the bytes of a source frame and those of its target frame, in
+// hexadecimal digits.
 #[rattlefmt::skip]
 static FORMATS: [&str; 108] = [
     "gray bgr555be 2x1:7f4c:3def2529",
@@ -74,8 +76,8 @@ static FORMATS: [&str; 108] = [
     "yuva444p10le yuv444p 2x1:31b8e9eafba0c32f11e08146cd31e82a:0cba3ff104a0",
     "yuva444p10be yuv444p10be 2x1:a9dc127dc82412380449a94d983e6b35:01dc027d002402380049014d",
     "yuva444p12le yuv444p16le 2x1:4d48fb0ef4599b67005bf73571ea4d3b:d084b0ef409fb07900b0705f",
-    "yuva444p12be yuva444p10le 2x1:173ac1530266c7f29e78b4d01efe25c4:cf0155009a00fd019e033401bf037101",
-    "yuva444p16le yuva444p16be 2x1:85e96b61f1b7209ef507efbed9d0e7df:e985616bb7f19e2007f5beefd0d9dfe7",
+    "yuva444p12be yuva444p10le 1x1:173a02669e781efe:cf019a009e03bf03",
+    "yuva444p16le yuva444p16be 1x1:85e9f1b7f507d9d0:e985b7f107f5d0d9",
     "yuva444p16be gbrp10be 2x1:8aa2d82b708d3ae5f2a874106fef66db:00df03ff01c0017803ff035b",
     "gbrp gbrp16le 2x1:61f75063b944:6161f7f750506363b9b94444",
     "gbrp9le gbrap12le 2x1:5350854d369cc8b5e0dd2832:99022d0cb101460e070f4101ff0fff0f",

@@ -1,6 +1,7 @@
 use Rattle.colour_matrix.specs.Levels.{levels}
 use Rattle.colour_matrix.proofs.level_table.scale_of.Goals as goal
-use Rattle.colour_matrix.proofs.level_table.scale_of.Goals.{in_default-via-in-Luma+in_default, in_default-via-in-Chroma+in_default, in_default-via-in_default}
+use Rattle.colour_matrix.proofs.level_table.scale_of.Goals.{in_default-via-in-Luma+in_default, in_default-via-in-Chroma+in_default}
+use Rattle.colour_matrix.proofs.level_table.scale_of.Goals.{in_default-via-in_default}
 
 pub returns-in-Luma-Limited : goal.returns-in-Luma-Limited
 unfolding levels

@@ -7,7 +7,8 @@ use Rattle.pix_io.specs.declared.transfer.Got.TheVariants.{Whole}
 use Rattle.frame_slices.specs.FrameSlices.{planes_in, behind_in}
 use Rattle.frame_slices.proofs.SlicePlanes.{length-planes_in, same_places, same_rows, all_have, palette_kept}
 use Rattle.frame_slices.proofs.SliceFrame.{nothing_behind}
-use Rattle.frame_slices.proofs.ReadsOn.{end_at, short_at, failed_at, both_read, end_in_front, short_in_front, failed_in_front, whole_in_front}
+use Rattle.frame_slices.proofs.ReadsOn.{end_at, short_at, failed_at, both_read, end_in_front, short_in_front, failed_in_front}
+use Rattle.frame_slices.proofs.ReadsOn.{whole_in_front}
 use Rattle.frame_slices.proofs.slices.read_bytes.Goals as goal
 
 pub returns-in-Ok-End-clause-read : goal.returns-in-Ok-End-clause-read

@@ -9,19 +9,22 @@ use Rattle.kernel_int.proofs.block.run_steps.Goals as goal
 pub step-requires-clause-follows : goal.step-requires-clause-follows
 step-requires-clause-follows g c =
     let within : c.loop-k.k < length c.args.ops.now = omega arith in
-    let same : c.index-ops-k.result ≡ op_at c.args.ops.now c.loop-k.k = c.index-ops-k.is ∙ get_or_default c.args.ops.now c.loop-k.k _ SwapBytes within in
+    let same : c.index-ops-k.result ≡ op_at c.args.ops.now c.loop-k.k = c.index-ops-k.is
+    ∙ get_or_default c.args.ops.now c.loop-k.k _ SwapBytes within in
     rw (c.loop-k.invariant.stage, same) (follows_at c.args.ops.now c.loop-k.k c.requires.kernel.typed within)
 
 pub step-requires-clause-good : goal.step-requires-clause-good
 step-requires-clause-good g c =
     let within : c.loop-k.k < length c.args.ops.now = omega arith in
-    let same : c.index-ops-k.result ≡ op_at c.args.ops.now c.loop-k.k = c.index-ops-k.is ∙ get_or_default c.args.ops.now c.loop-k.k _ SwapBytes within in
+    let same : c.index-ops-k.result ≡ op_at c.args.ops.now c.loop-k.k = c.index-ops-k.is
+    ∙ get_or_default c.args.ops.now c.loop-k.k _ SwapBytes within in
     rw (c.loop-k.invariant.stage, same) (good_at c.args.ops.now c.loop-k.k c.requires.kernel.typed within)
 
 pub step-requires-clause-stored : goal.step-requires-clause-stored
 step-requires-clause-stored g c =
     let within : c.loop-k.k < length c.args.ops.now = omega arith in
-    let same : c.index-ops-k.result ≡ op_at c.args.ops.now c.loop-k.k = c.index-ops-k.is ∙ get_or_default c.args.ops.now c.loop-k.k _ SwapBytes within in
+    let same : c.index-ops-k.result ≡ op_at c.args.ops.now c.loop-k.k = c.index-ops-k.is
+    ∙ get_or_default c.args.ops.now c.loop-k.k _ SwapBytes within in
     rw (c.loop-k.invariant.stage, same, ← stage_more c.args.ops.now c.loop-k.k within) (c.requires.kernel.wide (c.loop-k.k + 1))
 
 pub loop-k-preserved : goal.loop-k-preserved
@@ -34,25 +37,34 @@ loop-k-preserved g c =
     record {
       stage = c.stage_after-stage.ensures ∙ ap (λ s. stage_after s c.index-ops-k-in-loop-k.result) c.loop-k.invariant.stage
           ∙ ap (λ o. stage_after (stage_before ops k) o) again ∙ sym (stage_more ops k within);
-      bounded = bounded_more g.W.WholeNumber.number g.N.Numerator.value ops c.args.forms.now k c.loop-k.stage c.index-ops-k.result c.step.new.values c.step.new.numbers
+      bounded = bounded_more g.W.WholeNumber.number g.N.Numerator.value ops c.args.forms.now k c.loop-k.stage c.index-ops-k.result
+          c.step.new.values c.step.new.numbers
           c.loop-k.invariant.stage same within c.step.ensures.bounded;
       holds = λ frame n most start.
-          state_more g.W.WholeNumber.number g.N.Numerator.value ops c.args.forms.now c.args.position.now k c.loop-k.stage c.index-ops-k.result c.loop-k.values c.step.new.values c.loop-k.numbers c.step.new.numbers
-          c.requires.kernel.typed c.loop-k.invariant.stage same within c.step.ensures.holds frame n most (c.loop-k.invariant.holds frame n most start);
+          state_more g.W.WholeNumber.number g.N.Numerator.value ops c.args.forms.now c.args.position.now k c.loop-k.stage
+          c.index-ops-k.result c.loop-k.values c.step.new.values c.loop-k.numbers c.step.new.numbers
+          c.requires.kernel.typed c.loop-k.invariant.stage same within c.step.ensures.holds frame n most
+          (c.loop-k.invariant.holds frame n most start);
     }
 
 pub returns-clause-bounded : goal.returns-clause-bounded
 returns-clause-bounded g c =
     let last : c.loop-k.k ≡ length c.args.ops.now - 1 = omega arith in
     let before : c.loop-k.k - 1 ≡ length c.args.ops.now - 2 = omega arith in
-    subst (λ j. IsBounded g.W.WholeNumber.number g.N.Numerator.value (stage_before c.args.ops.now (length c.args.ops.now - 1)) (form_at c.args.forms.now j) c.loop-k.values c.loop-k.numbers) before
-    (subst (λ j. IsBounded g.W.WholeNumber.number g.N.Numerator.value (stage_before c.args.ops.now j) (form_at c.args.forms.now (c.loop-k.k - 1)) c.loop-k.values c.loop-k.numbers) last c.loop-k.invariant.bounded)
+    subst (λ j. IsBounded g.W.WholeNumber.number g.N.Numerator.value (stage_before c.args.ops.now (length c.args.ops.now - 1))
+    (form_at c.args.forms.now j) c.loop-k.values c.loop-k.numbers) before
+    (subst (λ j. IsBounded g.W.WholeNumber.number g.N.Numerator.value (stage_before c.args.ops.now j)
+    (form_at c.args.forms.now (c.loop-k.k - 1)) c.loop-k.values c.loop-k.numbers) last c.loop-k.invariant.bounded)
 
 pub returns-clause-holds : goal.returns-clause-holds
 returns-clause-holds g c =
     λ frame n most start.
     let last : c.loop-k.k ≡ length c.args.ops.now - 1 = omega arith in
     let before : c.loop-k.k - 1 ≡ length c.args.ops.now - 2 = omega arith in
-    subst (λ j. IsState g.W.WholeNumber.number g.N.Numerator.value (stage_before c.args.ops.now (length c.args.ops.now - 1)) (form_at c.args.forms.now j) c.loop-k.values c.loop-k.numbers n (values_before c.args.ops.now frame c.args.position.now (length c.args.ops.now - 1))) before
-    (subst (λ j. IsState g.W.WholeNumber.number g.N.Numerator.value (stage_before c.args.ops.now j) (form_at c.args.forms.now (c.loop-k.k - 1)) c.loop-k.values c.loop-k.numbers n (values_before c.args.ops.now frame c.args.position.now j)) last
+    subst (λ j. IsState g.W.WholeNumber.number g.N.Numerator.value (stage_before c.args.ops.now (length c.args.ops.now - 1))
+    (form_at c.args.forms.now j) c.loop-k.values c.loop-k.numbers n
+    (values_before c.args.ops.now frame c.args.position.now (length c.args.ops.now - 1))) before
+    (subst (λ j. IsState g.W.WholeNumber.number g.N.Numerator.value (stage_before c.args.ops.now j)
+    (form_at c.args.forms.now (c.loop-k.k - 1)) c.loop-k.values c.loop-k.numbers n
+    (values_before c.args.ops.now frame c.args.position.now j)) last
     (c.loop-k.invariant.holds frame n most start))

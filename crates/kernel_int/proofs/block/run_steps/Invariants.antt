@@ -7,6 +7,8 @@ invariant-loop-k g l = record {
   stage : l.stage ≡ stage_before l.ops l.k;
   bounded : IsBounded g.W.WholeNumber.number g.N.Numerator.value (stage_before l.ops l.k) (form_at l.forms (l.k - 1)) l.values l.numbers;
   holds : (frame : List ℕ) (n : ℕ) → n ≤ 64
-      → IsState g.W.WholeNumber.number g.N.Numerator.value (stage_before l.ops 1) (form_at l.forms 0) l.initial.values l.initial.numbers n (values_before l.ops frame l.position 1)
-      → IsState g.W.WholeNumber.number g.N.Numerator.value (stage_before l.ops l.k) (form_at l.forms (l.k - 1)) l.values l.numbers n (values_before l.ops frame l.position l.k);
+      → IsState g.W.WholeNumber.number g.N.Numerator.value (stage_before l.ops 1) (form_at l.forms 0) l.initial.values l.initial.numbers n
+      (values_before l.ops frame l.position 1)
+      → IsState g.W.WholeNumber.number g.N.Numerator.value (stage_before l.ops l.k) (form_at l.forms (l.k - 1)) l.values l.numbers n
+      (values_before l.ops frame l.position l.k);
 }

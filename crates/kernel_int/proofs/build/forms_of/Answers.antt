@@ -13,7 +13,8 @@ pub loop-k-init : goal.loop-k-init
 loop-k-init c =
     let ops = c.args.ops.now in
     let some : 0 < length ops = omega arith in
-    let items : c.push.new.self.items ≡ [] ++ (c.whole_form.result ∷ []) = pushed (c.whole_form.result ∷ []) c.new-forms.ensures.items c.in_ok-push.was c.push.ensures.items in
+    let items : c.push.new.self.items ≡ [] ++ (c.whole_form.result ∷ []) =
+    pushed (c.whole_form.result ∷ []) c.new-forms.ensures.items c.in_ok-push.was c.push.ensures.items in
     let same : c.index-ops-0.result ≡ op_at ops 0 = c.index-ops-0.is ∙ get_or_default ops 0 _ SwapBytes some in
     record {
       count = ap length items;
@@ -28,16 +29,20 @@ loop-k-preserved c =
     let k = c.loop-k.k in
     let within : k < length ops = omega arith in
     let form = c.in-Some.form in
-    let items : c.push-in-Some.new.self.items ≡ c.loop-k.forms.items ++ (form ∷ []) = pushed (form ∷ []) refl c.in_ok-push-in-Some.was c.push-in-Some.ensures.items in
+    let items : c.push-in-Some.new.self.items ≡ c.loop-k.forms.items ++ (form ∷ []) =
+    pushed (form ∷ []) refl c.in_ok-push-in-Some.was c.push-in-Some.ensures.items in
     let same : c.index-ops-k.result ≡ op_at ops k = c.index-ops-k.is ∙ get_or_default ops k _ SwapBytes within in
     let again : c.index-ops-k-in-loop-k.result ≡ op_at ops k = c.index-ops-k-in-loop-k.is ∙ get_or_default ops k _ SwapBytes within in
-    let before : c.index.result.now ≡ form_at c.loop-k.forms.items (k - 1) = c.index.ensures ∙ get_or_default c.loop-k.forms.items (k - 1) _ no_form (omega (arith, c.loop-k.invariant.count)) in
-    let step : IsStep (bits_of c.args.storage) (width_of c.args.tier) (stage_before ops k) (form_at c.loop-k.forms.items (k - 1)) (op_at ops k) form =
+    let before : c.index.result.now ≡ form_at c.loop-k.forms.items (k - 1) = c.index.ensures
+    ∙ get_or_default c.loop-k.forms.items (k - 1) _ no_form (omega (arith, c.loop-k.invariant.count)) in
+    let step : IsStep (bits_of c.args.storage) (width_of c.args.tier) (stage_before ops k) (form_at c.loop-k.forms.items (k - 1))
+    (op_at ops k) form =
     rw (← c.loop-k.invariant.stage, ← before, ← same) c.in-Some.ensures.step in
     record {
       count = ap length items ∙ length-append c.loop-k.forms.items (form ∷ []) ∙ ap (λ n. n + 1) c.loop-k.invariant.count;
       few = rw items (few_more c.loop-k.forms.items form c.loop-k.invariant.few c.in-Some.ensures.few);
-      steps = rw items (steps_more ops c.loop-k.forms.items form (bits_of c.args.storage) (width_of c.args.tier) k c.loop-k.invariant.count (omega arith) c.loop-k.invariant.steps step);
+      steps = rw items (steps_more ops c.loop-k.forms.items form (bits_of c.args.storage) (width_of c.args.tier) k c.loop-k.invariant.count
+          (omega arith) c.loop-k.invariant.steps step);
       stage = c.stage_after-stage-in-loop-k.ensures ∙ ap (λ s. stage_after s c.index-ops-k-in-loop-k.result) c.loop-k.invariant.stage
           ∙ ap (λ o. stage_after (stage_before ops k) o) again ∙ sym (stage_more ops k within);
     }

@@ -12,6 +12,7 @@ loop-v-preserved c =
       extents = rw length-set c.loop-v.invariant.extents;
       factors = rw length-set c.loop-v.invariant.factors;
       made = rows_more (λ v factors extent. MadeWithin c.args.op.now v (extent_at c.args.before.now v) c.args.e c.args.d factors extent)
-          c.loop-v.after.factors c.loop-v.after.extents c.loop-v.v made.factors made.extent (omega arith) (omega arith) c.loop-v.invariant.made
+          c.loop-v.after.factors c.loop-v.after.extents c.loop-v.v made.factors made.extent (omega arith)
+          (omega arith) c.loop-v.invariant.made
           (c.joint_made-made.ensures.made, c.joint_made-made.ensures.denominator, c.joint_made-made.ensures.size);
     }

@@ -12,6 +12,7 @@ loop-v-preserved c =
       extents = rw length-set c.loop-v.invariant.extents;
       factors = rw length-set c.loop-v.invariant.factors;
       rows = rows_more (λ v factors extent. RowMade c.args.e c.args.d (row_of c.args.rows.now v) c.args.before.now factors extent)
-          c.loop-v.after.factors c.loop-v.after.extents c.loop-v.v made.factors made.extent (omega arith) (omega arith) c.loop-v.invariant.rows
+          c.loop-v.after.factors c.loop-v.after.extents c.loop-v.v made.factors made.extent (omega arith)
+          (omega arith) c.loop-v.invariant.rows
           (c.joint_row-made.ensures.row, c.joint_row-made.ensures.denominator, c.joint_row-made.ensures.size);
     }

@@ -1,4 +1,5 @@
-use Rattle.std.proofs.Common.{◌≡◌, ℕ, ◌+◌, ◌*◌, ◌<◌, ◌≤◌, ◌^◌, List, [], ◌∷◌, ℤ, pos, ◌*ℤ◌, refl, sym, ap, ◌∙◌, arith, subst, unsigned_abs, to_z, of_z}
+use Rattle.std.proofs.Common.{◌≡◌, ℕ, ◌+◌, ◌*◌, ◌<◌, ◌≤◌, ◌^◌, List, [], ◌∷◌, ℤ, pos, ◌*ℤ◌, refl, sym, ap, ◌∙◌, arith, subst, unsigned_abs}
+use Rattle.std.proofs.Common.{to_z, of_z}
 use Rattle.std.specs.Int.{w128}
 use Rattle.op_list.specs.Values.{fraction_in}
 use Rattle.frac_math.proofs.FractionRing.{product_positive}
@@ -28,15 +29,18 @@ returns-clause-row c =
     let e3 : to_z w128 (of_z w128 k3) ≡ k3 = plain k3 (small_fits k3 (unsigned_abs k3) (omega arith) c.row_factor-4.ensures.small) in
     let e4 : to_z w128 (of_z w128 k4) ≡ k4 = plain k4 (small_fits k4 (unsigned_abs k4) (omega arith) small4) in
     let factors : List ℤ = k0 ∷ k1 ∷ k2 ∷ k3 ∷ k4 ∷ [] in
-    let shown : List ℤ = to_z w128 (of_z w128 k0) ∷ to_z w128 (of_z w128 k1) ∷ to_z w128 (of_z w128 k2) ∷ to_z w128 (of_z w128 k3) ∷ to_z w128 (of_z w128 k4) ∷ [] in
+    let shown : List ℤ = to_z w128 (of_z w128 k0) ∷ to_z w128 (of_z w128 k1) ∷ to_z w128 (of_z w128 k2) ∷ to_z w128 (of_z w128 k3)
+    ∷ to_z w128 (of_z w128 k4) ∷ [] in
     let same : shown ≡ factors = five e0 e1 e2 e3 e4 in
-    let total : c.row_total.result ≡ row_total before factors = subst (λ t. c.row_total.result ≡ row_total before t) same c.row_total.ensures in
+    let total : c.row_total.result ≡ row_total before factors =
+    subst (λ t. c.row_total.result ≡ row_total before t) same c.row_total.ensures in
     let below : row_total before factors ≤ row_most c.args.e c.args.d row before =
     total_below before factors c.args.e c.args.d row c.row_constant.ensures.size
     (λ j small. four_cases (λ t. part before factors t ≤ term_most c.args.e c.args.d (fraction_in row t) (extent_at before t)) j small
     c.row_factor.ensures.size c.row_factor-2.ensures.size c.row_factor-3.ensures.size c.row_factor-4.ensures.size) in
     rw (e0, e1, e2, e3, e4)
-    (row_is before row factors c.around-extent.result d c.row_total.result c.requires.count (product_positive c.args.d c.args.e c.requires.some.1 c.requires.some.0) c.around-extent.ensures
+    (row_is before row factors c.around-extent.result d c.row_total.result c.requires.count
+    (product_positive c.args.d c.args.e c.requires.some.1 c.requires.some.0) c.around-extent.ensures
     (omega (arith, total, below, c.requires.most))
     (λ j small. four_cases (λ t. IsTerm before (fraction_in row t) (factor factors t) d t) j small
     c.row_factor.ensures.term c.row_factor-2.ensures.term c.row_factor-3.ensures.term c.row_factor-4.ensures.term)
@@ -62,9 +66,11 @@ returns-clause-size c =
     let e3 : to_z w128 (of_z w128 k3) ≡ k3 = plain k3 (small_fits k3 (unsigned_abs k3) (omega arith) c.row_factor-4.ensures.small) in
     let e4 : to_z w128 (of_z w128 k4) ≡ k4 = plain k4 (small_fits k4 (unsigned_abs k4) (omega arith) small4) in
     let factors : List ℤ = k0 ∷ k1 ∷ k2 ∷ k3 ∷ k4 ∷ [] in
-    let shown : List ℤ = to_z w128 (of_z w128 k0) ∷ to_z w128 (of_z w128 k1) ∷ to_z w128 (of_z w128 k2) ∷ to_z w128 (of_z w128 k3) ∷ to_z w128 (of_z w128 k4) ∷ [] in
+    let shown : List ℤ = to_z w128 (of_z w128 k0) ∷ to_z w128 (of_z w128 k1) ∷ to_z w128 (of_z w128 k2) ∷ to_z w128 (of_z w128 k3)
+    ∷ to_z w128 (of_z w128 k4) ∷ [] in
     let same : shown ≡ factors = five e0 e1 e2 e3 e4 in
-    let total : c.row_total.result ≡ row_total before factors = subst (λ t. c.row_total.result ≡ row_total before t) same c.row_total.ensures in
+    let total : c.row_total.result ≡ row_total before factors =
+    subst (λ t. c.row_total.result ≡ row_total before t) same c.row_total.ensures in
     let below : row_total before factors ≤ row_most c.args.e c.args.d row before =
     total_below before factors c.args.e c.args.d row c.row_constant.ensures.size
     (λ j small. four_cases (λ t. part before factors t ≤ term_most c.args.e c.args.d (fraction_in row t) (extent_at before t)) j small

@@ -13,7 +13,8 @@ joint_factor-requires-clause-positive c = c.requires.within.positive c.args.j c.
 
 pub joint_factor-requires-clause-whole : goal.joint_factor-requires-clause-whole
 joint_factor-requires-clause-whole c =
-    let same : slice_index_or c.args.row.now c.args.j c.index-row-j.result ≡ fraction_in c.args.row.now c.args.j = get_or_default c.args.row.now c.args.j _ (nat 0) (omega arith) in
+    let same : slice_index_or c.args.row.now c.args.j c.index-row-j.result ≡ fraction_in c.args.row.now c.args.j =
+    get_or_default c.args.row.now c.args.j _ (nat 0) (omega arith) in
     rw same (c.requires.within.whole c.args.j (omega arith))
 
 pub joint_factor-requires-clause-over : goal.joint_factor-requires-clause-over
@@ -21,13 +22,15 @@ joint_factor-requires-clause-over c = c.requires.within.over c.args.j c.requires
 
 pub joint_factor-requires-clause-size : goal.joint_factor-requires-clause-size
 joint_factor-requires-clause-size c =
-    let same : slice_index_or c.args.row.now c.args.j c.index-row-j.result ≡ fraction_in c.args.row.now c.args.j = get_or_default c.args.row.now c.args.j _ (nat 0) (omega arith) in
+    let same : slice_index_or c.args.row.now c.args.j c.index-row-j.result ≡ fraction_in c.args.row.now c.args.j =
+    get_or_default c.args.row.now c.args.j _ (nat 0) (omega arith) in
     rw same (term_within c.args.e c.args.d c.args.row.now c.args.before.now c.args.j c.requires.within c.requires.j)
 
 pub returns-clause-term : goal.returns-clause-term
 returns-clause-term c =
     let k = c.joint_factor.result in
-    let same : slice_index_or c.args.row.now c.args.j c.index-row-j.result ≡ fraction_in c.args.row.now c.args.j = get_or_default c.args.row.now c.args.j _ (nat 0) (omega arith) in
+    let same : slice_index_or c.args.row.now c.args.j c.index-row-j.result ≡ fraction_in c.args.row.now c.args.j =
+    get_or_default c.args.row.now c.args.j _ (nat 0) (omega arith) in
     let term = rw same at c.joint_factor.ensures.term in
     rw (plain k (small_fits k (unsigned_abs k) (omega arith) c.joint_factor.ensures.small))
     (term_of c.args.before.now c.args.j (fraction_in c.args.row.now c.args.j) k _ c.requires.within.count c.requires.j term)

@@ -7,13 +7,15 @@ use Rattle.kernel_int.proofs.JointRows.{factor_times}
 use Rattle.kernel_int.proofs.joint_row.some_factor.Goals as goal
 
 pub times-requires-clause-small : goal.times-requires-clause-small
-times-requires-clause-small c = (factor_times c.args.old.now c.args.coefficient.now c.args.e c.args.d c.requires.some c.requires.there c.requires.size).0
+times-requires-clause-small c = (factor_times c.args.old.now c.args.coefficient.now c.args.e c.args.d c.requires.some c.requires.there
+    c.requires.size).0
 
 pub times_of-requires-clause-size : goal.times_of-requires-clause-size
 times_of-requires-clause-size c =
     let both = factor_times c.args.old.now c.args.coefficient.now c.args.e c.args.d c.requires.some c.requires.there c.requires.size in
     rw c.times.ensures
-    (let number : unsigned_abs (to_z w128 (of_z w128 c.num.result)) ≡ unsigned_abs c.args.coefficient.now.numerator = search rules in rw number both.1)
+    (let number : unsigned_abs (to_z w128 (of_z w128 c.num.result)) ≡ unsigned_abs c.args.coefficient.now.numerator = search rules
+    in rw number both.1)
 
 pub returns-clause-small : goal.returns-clause-small
 returns-clause-small c =

@@ -11,5 +11,6 @@ returns-clause-made c =
     let by = c.args.by.now in
     let k : factor c.made.result.factors 0 ≡ by.numerator = search rules in
     let fits : FitsSigned w128 (factor c.made.result.factors 0) = search rules in
-    let around : IsAround c.made.result.extent (unsigned_abs old.denominator * by.denominator) (extent_size old * unsigned_abs by.numerator) = search rules in
+    let around : IsAround c.made.result.extent (unsigned_abs old.denominator * by.denominator)
+    (extent_size old * unsigned_abs by.numerator) = search rules in
     scaled_made old c.made.result.extent by (factor c.made.result.factors 0) c.requires.positive k fits around c.requires.size

@@ -8,7 +8,8 @@ pub overflow_cast-result : goal.overflow_cast-result
 overflow_cast-result c = small_fits (pos c.args.n) c.args.n (omega arith) c.requires.factor
 
 pub overflow_mul-result : goal.overflow_mul-result
-overflow_mul-result c = subst (FitsSigned w128) (sym (times_plain c.args.number c.args.n c.ranges.number c.requires.factor)) (times_fits c.args.number c.args.n c.requires.size)
+overflow_mul-result c = subst (FitsSigned w128) (sym (times_plain c.args.number c.args.n c.ranges.number c.requires.factor))
+    (times_fits c.args.number c.args.n c.requires.size)
 
 pub returns : goal.returns
 returns c = ap (λ z. to_z w128 (of_z w128 z)) (times_plain c.args.number c.args.n c.ranges.number c.requires.factor)

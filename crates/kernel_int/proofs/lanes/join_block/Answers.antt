@@ -21,6 +21,7 @@ loop-k-preserved c =
       kept = λ i apart.
           let wide : (i < start + 48 * k) ⊎ (start + 48 * k + 48 ≤ i) =
           ⊎_elim (λ (lt : i < start). inl (omega arith)) (λ (ge : start + 48 * (k + 1) ≤ i). inr (omega arith)) apart in
-          let before : (i < start) ⊎ (start + 48 * k ≤ i) = ⊎_elim (λ (lt : i < start). inl lt) (λ (ge : start + 48 * (k + 1) ≤ i). inr (omega arith)) apart in
+          let before : (i < start) ⊎ (start + 48 * k ≤ i) =
+          ⊎_elim (λ (lt : i < start). inl lt) (λ (ge : start + 48 * (k + 1) ≤ i). inr (omega arith)) apart in
           c.join_sixteen.ensures.kept i wide ∙ c.loop-k.invariant.kept i before;
     }

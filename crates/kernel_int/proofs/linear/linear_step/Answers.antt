@@ -13,20 +13,25 @@ row_of_sums-requires-clause-fits g c =
 pub loop-v-preserved : goal.loop-v-preserved
 loop-v-preserved g c =
     λ v i d below within.
-    below_more (λ u. g.N.Numerator.value (slice_index_or c.row_of_sums.new.sums (64 * u + i) d) ≡ row_sum (factors_at c.args.after.now u) (lane_numbers g.N.Numerator.value c.args.numbers.now i d) 4) c.loop-v.v
+    below_more (λ u. g.N.Numerator.value (slice_index_or c.row_of_sums.new.sums (64 * u + i) d)
+    ≡ row_sum (factors_at c.args.after.now u) (lane_numbers g.N.Numerator.value c.args.numbers.now i d) 4) c.loop-v.v
     (λ u lt. ap g.N.Numerator.value (c.row_of_sums.ensures.kept (64 * u + i) d (inl (omega arith))) ∙ c.loop-v.invariant u i d lt within)
     (c.row_of_sums.ensures.set i d within) v below
 
 pub returns-clause-bounded : goal.returns-clause-bounded
 returns-clause-bounded g c =
     let sums : Sums g.N.Numerator.value c.args.after.now c.args.numbers.now c.copy_front.new.to =
-    λ v i d below within. ap g.N.Numerator.value (c.copy_front.ensures (64 * v + i) d (omega arith)) ∙ c.loop-v.invariant v i d (omega arith) within in
-    rows_bounded g.W.WholeNumber.number g.N.Numerator.value g.N.Numerator.width c.args.stage c.args._rows.now c.args.before.now c.args.after.now c.args._values.now c.args.numbers.now c.copy_front.new.to
+    λ v i d below within. ap g.N.Numerator.value (c.copy_front.ensures (64 * v + i) d (omega arith))
+    ∙ c.loop-v.invariant v i d (omega arith) within in
+    rows_bounded g.W.WholeNumber.number g.N.Numerator.value g.N.Numerator.width c.args.stage c.args._rows.now c.args.before.now
+    c.args.after.now c.args._values.now c.args.numbers.now c.copy_front.new.to
     (linear_rational c.args.stage c.args._rows.now c.requires.follows) c.requires.step sums c.requires.bounded
 
 pub returns-clause-holds : goal.returns-clause-holds
 returns-clause-holds g c =
     let sums : Sums g.N.Numerator.value c.args.after.now c.args.numbers.now c.copy_front.new.to =
-    λ v i d below within. ap g.N.Numerator.value (c.copy_front.ensures (64 * v + i) d (omega arith)) ∙ c.loop-v.invariant v i d (omega arith) within in
-    rows_perform g.W.WholeNumber.number g.N.Numerator.value g.N.Numerator.width c.args.stage c.args._rows.now c.args.before.now c.args.after.now c.args._position.now c.args._values.now c.args.numbers.now c.copy_front.new.to
+    λ v i d below within. ap g.N.Numerator.value (c.copy_front.ensures (64 * v + i) d (omega arith))
+    ∙ c.loop-v.invariant v i d (omega arith) within in
+    rows_perform g.W.WholeNumber.number g.N.Numerator.value g.N.Numerator.width c.args.stage c.args._rows.now c.args.before.now
+    c.args.after.now c.args._position.now c.args._values.now c.args.numbers.now c.copy_front.new.to
     (linear_rational c.args.stage c.args._rows.now c.requires.follows) c.requires.few c.requires.step sums c.requires.bounded

@@ -5,4 +5,5 @@ use Rattle.kernel_int.proofs.linear.linear_step.Given as goal
 
 abbrev pub invariant-loop-v : goal.invariant-loop-v
 invariant-loop-v g l = (v i : ℕ) (d : _) → v < l.v → i < 64
-    → g.N.Numerator.value (slice_index_or l.sums (64 * v + i) d) ≡ row_sum (factors_at l.after v) (lane_numbers g.N.Numerator.value l.numbers i d) 4
+    → g.N.Numerator.value (slice_index_or l.sums (64 * v + i) d)
+    ≡ row_sum (factors_at l.after v) (lane_numbers g.N.Numerator.value l.numbers i d) 4

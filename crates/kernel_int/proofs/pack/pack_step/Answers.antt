@@ -13,7 +13,8 @@ pub loop-v-preserved : goal.loop-v-preserved
 loop-v-preserved g c = record {
   others = λ u i d some below within.
       below_more (λ t. 0 < t → g.W.WholeNumber.number (slice_index_or c.fill.new.to (64 * t + i) d) ≡ 0) c.loop-v.v
-      (λ t lt first. ap g.W.WholeNumber.number (c.fill.ensures.kept (64 * t + i) d (inl (omega arith))) ∙ c.loop-v.invariant.others t i d first lt within)
+      (λ t lt first. ap g.W.WholeNumber.number (c.fill.ensures.kept (64 * t + i) d (inl (omega arith)))
+      ∙ c.loop-v.invariant.others t i d first lt within)
       (λ first. ap g.W.WholeNumber.number (c.fill.ensures.set i d within) ∙ c.narrow.ensures) u below some;
   first = λ i d within. c.fill.ensures.kept i d (inl (omega arith)) ∙ c.loop-v.invariant.first i d within;
 }
@@ -24,7 +25,8 @@ returns-clause-bounded g c =
       first = λ i d within. ap g.W.WholeNumber.number (c.loop-v.invariant.first i d within) ∙ c.pack_fields.ensures.set i d within;
       others = λ v i d some below within. c.loop-v.invariant.others v i d some (omega arith) within;
     } in
-    pack_bounded g.W.WholeNumber.number g.N.Numerator.value c.args.stage c.args.widths.now c.args.before.now c.args.after.now c.args.values.now c.loop-v.values c.args._numbers.now
+    pack_bounded g.W.WholeNumber.number g.N.Numerator.value c.args.stage c.args.widths.now c.args.before.now c.args.after.now
+    c.args.values.now c.loop-v.values c.args._numbers.now
     c.requires.follows c.requires.good (omega arith) packs
 
 pub returns-clause-holds : goal.returns-clause-holds
@@ -33,5 +35,6 @@ returns-clause-holds g c =
       first = λ i d within. ap g.W.WholeNumber.number (c.loop-v.invariant.first i d within) ∙ c.pack_fields.ensures.set i d within;
       others = λ v i d some below within. c.loop-v.invariant.others v i d some (omega arith) within;
     } in
-    pack_performs g.W.WholeNumber.number g.N.Numerator.value c.args.stage c.args.widths.now c.args.before.now c.args.after.now c.args._position.now c.args.values.now c.loop-v.values c.args._numbers.now
+    pack_performs g.W.WholeNumber.number g.N.Numerator.value c.args.stage c.args.widths.now c.args.before.now c.args.after.now
+    c.args._position.now c.args.values.now c.loop-v.values c.args._numbers.now
     c.requires.follows c.requires.good c.requires.few c.requires.step packs

@@ -8,10 +8,15 @@ pub loop-v-preserved : goal.loop-v-preserved
 loop-v-preserved g c =
     let number = g.W.WholeNumber.number in
     record {
-      set = hold_next number c.loop-v.values c.read_colour.new.values (λ v i. colour_in c.args.from.now c.pixel_count-table.result (c.pixel_number-start.result + i) (colour_byte v)) c.loop-v.v c.args.n
-          (λ i d within. c.read_colour.ensures.set i d within ∙ ap (λ b. colour_in c.args.from.now c.pixel_count-table.result (c.pixel_number-start.result + i) b) c.colour_byte.ensures.value)
+      set = hold_next number c.loop-v.values c.read_colour.new.values
+          (λ v i. colour_in c.args.from.now c.pixel_count-table.result (c.pixel_number-start.result + i) (colour_byte v)) c.loop-v.v
+          c.args.n
+          (λ i d within. c.read_colour.ensures.set i d within
+          ∙ ap (λ b. colour_in c.args.from.now c.pixel_count-table.result (c.pixel_number-start.result + i) b)
+          c.colour_byte.ensures.value)
           c.read_colour.ensures.kept c.loop-v.invariant.set (omega arith);
-      small = below_next number c.loop-v.values c.read_colour.new.values c.loop-v.v (2 ^ 8) c.read_colour.ensures.small c.read_colour.ensures.kept c.loop-v.invariant.small;
+      small = below_next number c.loop-v.values c.read_colour.new.values c.loop-v.v
+          (2 ^ 8) c.read_colour.ensures.small c.read_colour.ensures.kept c.loop-v.invariant.small;
     }
 
 pub returns-clause-set : goal.returns-clause-set

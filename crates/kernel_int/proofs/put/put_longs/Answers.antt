@@ -6,7 +6,10 @@ use Rattle.kernel_int.proofs.put.put_longs.Goals as goal
 
 pub loop-i-preserved : goal.loop-i-preserved
 loop-i-preserved g c = record {
-  set = set_more (element U32) g.W.WholeNumber.number c.args.values.now c.loop-i.to c.set_long.new.to (64 * c.args.v) c.args.start g.row.C c.loop-i.i c.index-values-v.result
-      (c.requires.step.0) (omega arith) c.index-values-v.is (c.set_long.ensures.set ∙ c.wide.ensures.value) c.set_long.ensures.kept c.loop-i.invariant.set;
-  kept = kept_more (element U32) c.args.to.now c.loop-i.to c.set_long.new.to c.args.start g.row.C c.loop-i.i c.set_long.ensures.kept c.loop-i.invariant.kept;
+  set = set_more (element U32) g.W.WholeNumber.number c.args.values.now c.loop-i.to c.set_long.new.to
+      (64 * c.args.v) c.args.start g.row.C c.loop-i.i c.index-values-v.result
+      (c.requires.step.0) (omega arith) c.index-values-v.is
+      (c.set_long.ensures.set ∙ c.wide.ensures.value) c.set_long.ensures.kept c.loop-i.invariant.set;
+  kept = kept_more (element U32) c.args.to.now c.loop-i.to c.set_long.new.to c.args.start g.row.C c.loop-i.i c.set_long.ensures.kept
+      c.loop-i.invariant.kept;
 }

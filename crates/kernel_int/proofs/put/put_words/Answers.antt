@@ -6,7 +6,10 @@ use Rattle.kernel_int.proofs.put.put_words.Goals as goal
 
 pub loop-i-preserved : goal.loop-i-preserved
 loop-i-preserved g c = record {
-  set = set_more (element U16) g.W.WholeNumber.number c.args.values.now c.loop-i.to c.set_word.new.to (64 * c.args.v) c.args.start g.row.C c.loop-i.i c.index-values-v.result
-      (c.requires.step.0) (omega arith) c.index-values-v.is (c.set_word.ensures.set ∙ c.wide.ensures.value) c.set_word.ensures.kept c.loop-i.invariant.set;
-  kept = kept_more (element U16) c.args.to.now c.loop-i.to c.set_word.new.to c.args.start g.row.C c.loop-i.i c.set_word.ensures.kept c.loop-i.invariant.kept;
+  set = set_more (element U16) g.W.WholeNumber.number c.args.values.now c.loop-i.to c.set_word.new.to
+      (64 * c.args.v) c.args.start g.row.C c.loop-i.i c.index-values-v.result
+      (c.requires.step.0) (omega arith) c.index-values-v.is
+      (c.set_word.ensures.set ∙ c.wide.ensures.value) c.set_word.ensures.kept c.loop-i.invariant.set;
+  kept = kept_more (element U16) c.args.to.now c.loop-i.to c.set_word.new.to c.args.start g.row.C c.loop-i.i c.set_word.ensures.kept
+      c.loop-i.invariant.kept;
 }

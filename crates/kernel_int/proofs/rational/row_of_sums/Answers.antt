@@ -10,20 +10,25 @@ mul_add-requires-clause-product g c =
 
 pub mul_add-requires-clause-fits : goal.mul_add-requires-clause-fits
 mul_add-requires-clause-fits g c =
-    λ i d below. rw (c.entry-then-has_entry.ensures, c.loop-j.invariant.set i d below) ((c.requires.fits i d below).sums (suc c.loop-j.j) (omega arith))
+    λ i d below. rw (c.entry-then-has_entry.ensures, c.loop-j.invariant.set i d below)
+    ((c.requires.fits i d below).sums (suc c.loop-j.j) (omega arith))
 
 pub loop-j-preserved : goal.loop-j-preserved
 loop-j-preserved g c =
     elim c.if-has_entry.branch [
       | then-has_entry w ↦ record {
         set = λ i d below. rw (w.sums-is, add-one) (w.mul_add.ensures.set i d below
-            ∙ ap (λ t. with_product t (g.N.Numerator.value (slice_index_or c.args.numbers.now (64 * c.loop-j.j + i) d)) (g.N.Numerator.value w.entry-then-has_entry.result)) (c.loop-j.invariant.set i d below)
-            ∙ ap (with_product (row_sum c.args.row.now (lane_numbers g.N.Numerator.value c.args.numbers.now i d) c.loop-j.j) (g.N.Numerator.value (slice_index_or c.args.numbers.now (64 * c.loop-j.j + i) d))) w.entry-then-has_entry.ensures);
+            ∙ ap (λ t. with_product t (g.N.Numerator.value (slice_index_or c.args.numbers.now (64 * c.loop-j.j + i) d))
+            (g.N.Numerator.value w.entry-then-has_entry.result)) (c.loop-j.invariant.set i d below)
+            ∙ ap (with_product (row_sum c.args.row.now (lane_numbers g.N.Numerator.value c.args.numbers.now i d) c.loop-j.j)
+            (g.N.Numerator.value (slice_index_or c.args.numbers.now (64 * c.loop-j.j + i) d))) w.entry-then-has_entry.ensures);
         kept = λ j d apart. rw w.sums-is (w.mul_add.ensures.kept j d apart ∙ c.loop-j.invariant.kept j d apart);
       }
       | else-has_entry w ↦ record {
         set = λ i d below. rw (w.sums-is, add-one) (c.loop-j.invariant.set i d below
-            ∙ no_product (row_sum c.args.row.now (lane_numbers g.N.Numerator.value c.args.numbers.now i d) c.loop-j.j) (lane_numbers g.N.Numerator.value c.args.numbers.now i d c.loop-j.j) (slice_index_or c.args.row.now c.loop-j.j (pos 0)) (c.has_entry.ensures w.if-has_entry.false));
+            ∙ no_product (row_sum c.args.row.now (lane_numbers g.N.Numerator.value c.args.numbers.now i d) c.loop-j.j)
+            (lane_numbers g.N.Numerator.value c.args.numbers.now i d c.loop-j.j) (slice_index_or c.args.row.now c.loop-j.j (pos 0))
+            (c.has_entry.ensures w.if-has_entry.false));
         kept = λ j d apart. rw w.sums-is (c.loop-j.invariant.kept j d apart);
       }
     ]

@@ -17,19 +17,22 @@ loop-block-preserved g c =
     let ops = c.args.ops.now in
     let start = c.loop-block.block * 64 in
     let at : ℕ → PixelPosition = λ x. position_at c.args.width c.args.rows c.args.row c.args.y x in
-    let P : ℕ → ℕ → Type 0 = λ x v. element_of (elem_of (last_op ops)) (planes_of (last_op ops)) c.run_block.new.to (at x) v ≡ number (run_from c.args.from.now (at x) Start ops no_values) v in
+    let P : ℕ → ℕ → Type 0 = λ x v. element_of (elem_of (last_op ops)) (planes_of (last_op ops)) c.run_block.new.to (at x) v
+    ≡ number (run_from c.args.from.now (at x) Start ops no_values) v in
     record {
       stored = λ x v inside below within.
           ⊎_elim
           (λ (before : x < start).
-          c.run_block.ensures.others (at x) (earlier_outside c.args.width c.args.rows c.args.row c.args.y start _ x c.requires.row inside before) v
+          c.run_block.ensures.others (at x) (earlier_outside c.args.width c.args.rows c.args.row c.args.y start _ x c.requires.row inside
+          before) v
           ∙ c.loop-block.invariant.stored x v inside (omega arith) within)
           (λ (here : start ≤ x).
           let same : start + (x - start) ≡ x = omega arith in
           subst (λ t. P t v) same (c.run_block.ensures.stored v (x - start) within (omega arith)))
           (cases_lt x start);
       others = λ other is v.
-          c.run_block.ensures.others other (other_row_outside c.args.width c.args.rows c.args.row c.args.y start _ other (omega arith) is) v ∙ c.loop-block.invariant.others other is v;
+          c.run_block.ensures.others other (other_row_outside c.args.width c.args.rows c.args.row c.args.y start _ other (omega arith) is) v
+          ∙ c.loop-block.invariant.others other is v;
     }
 
 pub returns-clause-stored : goal.returns-clause-stored

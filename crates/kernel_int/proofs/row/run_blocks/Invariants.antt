@@ -12,7 +12,9 @@ use Rattle.kernel_int.proofs.row.run_blocks.Given as goal
 abbrev pub invariant-loop-block : goal.invariant-loop-block
 invariant-loop-block g l = record {
   stored : (x v : ℕ) → x < l.width → x < 64 * l.block → v < sum (planes_of (last_op l.ops))
-      → element_of (elem_of (last_op l.ops)) (planes_of (last_op l.ops)) l.to (position_at l.width l.rows l.row l.y x) v ≡ number (run_from l.from (position_at l.width l.rows l.row l.y x) Start l.ops no_values) v;
+      → element_of (elem_of (last_op l.ops)) (planes_of (last_op l.ops)) l.to (position_at l.width l.rows l.row l.y x) v
+      ≡ number (run_from l.from (position_at l.width l.rows l.row l.y x) Start l.ops no_values) v;
   others : (other : PixelPosition) → IsOtherRow l.width l.rows l.row other → (v : ℕ)
-      → element_of (elem_of (last_op l.ops)) (planes_of (last_op l.ops)) l.to other v ≡ element_of (elem_of (last_op l.ops)) (planes_of (last_op l.ops)) l.initial.to other v;
+      → element_of (elem_of (last_op l.ops)) (planes_of (last_op l.ops)) l.to other v
+      ≡ element_of (elem_of (last_op l.ops)) (planes_of (last_op l.ops)) l.initial.to other v;
 }

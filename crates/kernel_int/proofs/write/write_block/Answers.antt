@@ -16,7 +16,14 @@ write_value-requires-clause-room g c =
     λ i below.
     rw (c.stride_of-stride.ensures.start, c.stride_of-stride.ensures.step)
     (lane_ends c.args.elem c.args.planes.now c.loop-v.to c.args.position.now i c.args.n c.loop-v.v
-    (record { column = c.requires.frame.column; row = c.requires.frame.row; whole = c.requires.frame.whole; few = c.requires.frame.few; size = c.loop-v.auto.to ∙ c.write_three-first.auto.to ∙ c.requires.frame.size })
+    (record {
+      column = c.requires.frame.column;
+      row = c.requires.frame.row;
+      whole = c.requires.frame.whole;
+      few =
+          c.requires.frame.few;
+      size = c.loop-v.auto.to ∙ c.write_three-first.auto.to ∙ c.requires.frame.size;
+    })
     below (omega arith) (omega arith))
 
 pub loop-v-preserved : goal.loop-v-preserved
@@ -26,17 +33,24 @@ loop-v-preserved g c =
     let planes = c.args.planes.now in
     let position = c.args.position.now in
     let within : v < sum planes = omega arith in
-    let start : c.stride_of-stride.result.start ≡ element_in (pixel_count position) (pixel_number position) 0 planes v = c.stride_of-stride.ensures.start in
+    let start : c.stride_of-stride.result.start ≡ element_in (pixel_count position) (pixel_number position) 0 planes v =
+    c.stride_of-stride.ensures.start in
     let kept = rw (start, c.stride_of-stride.ensures.step) at c.write_value.ensures.kept in
     record {
       stored = λ u i d below lt.
-          below_more (λ t. element_of elem planes c.write_value.new.to (pixel_at position i) t ≡ g.W.WholeNumber.number (slice_index_or c.args.values.now (64 * t + i) d)) v
+          below_more (λ t. element_of elem planes c.write_value.new.to (pixel_at position i) t
+          ≡ g.W.WholeNumber.number (slice_index_or c.args.values.now (64 * t + i) d)) v
           (λ t less.
-          pixel_kept elem planes c.loop-v.to c.write_value.new.to position (pixel_at position i) c.args.n t v c.requires.frame.column c.requires.frame.row (omega arith) within refl refl (omega arith) c.requires.frame.row
+          pixel_kept elem planes c.loop-v.to c.write_value.new.to position
+          (pixel_at position i) c.args.n t v c.requires.frame.column c.requires.frame.row (omega arith) within refl refl
+          (omega arith) c.requires.frame.row
           kept (λ k near same_pixel same. omega (arith, less, same)) ∙ c.loop-v.invariant.stored t i d less lt)
-          (lane_element elem planes c.write_value.new.to position i v within ∙ (rw (start, c.stride_of-stride.ensures.step) at (c.write_value.ensures.set i d lt)))
+          (lane_element elem planes c.write_value.new.to position i v within
+          ∙ (rw (start, c.stride_of-stride.ensures.step) at (c.write_value.ensures.set i d lt)))
           u below;
       others = λ other is u.
-          pixel_kept elem planes c.loop-v.to c.write_value.new.to position other c.args.n u v c.requires.frame.column c.requires.frame.row (omega arith) within is.width is.rows is.column is.row
-          kept (λ k near same_pixel same. outside_apart position other c.args.n k is near same_pixel) ∙ c.loop-v.invariant.others other is u;
+          pixel_kept elem planes c.loop-v.to c.write_value.new.to position other c.args.n u v c.requires.frame.column c.requires.frame.row
+          (omega arith) within is.width is.rows is.column is.row
+          kept (λ k near same_pixel same. outside_apart position other c.args.n k is near same_pixel)
+          ∙ c.loop-v.invariant.others other is u;
     }

@@ -15,5 +15,6 @@ returns-then-join_three-clause-others g c =
     λ other is u.
     let whole : c.args.n ≡ 64 = omega arith in
     rw c.in-U8.is
-    (three_kept c.args.planes.now c.args.to.now c.join_three.new.to c.args.position.now other u (omega arith) c.requires.frame.row (omega arith) (rw whole at is)
+    (three_kept c.args.planes.now c.args.to.now c.join_three.new.to c.args.position.now other u (omega arith) c.requires.frame.row
+    (omega arith) (rw whole at is)
     (rw c.stride_of-stride.ensures.start at (c.join_three.ensures.kept c.if-join_three.true)))

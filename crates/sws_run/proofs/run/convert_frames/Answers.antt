@@ -4,7 +4,8 @@ use Rattle.sws_run.specs.declared.ended.Ended.TheVariants.{Stream}
 use Rattle.sws_run.specs.Cut.{Clean, TooMany, Broken, Faulty, piece_cut, most_frames}
 use Rattle.sws_run.specs.Frames.{EndsFrames, IfTold, IsFrameFor, TakesFrame, TakesPiece, size_by, source_held, target_held, text_by}
 use Rattle.sws_run.proofs.Runs.{start_place, start_texts, end_nothing, end_faulty, end_last, ends_as, texts_whole, stops_in_part}
-use Rattle.sws_run.proofs.Runs.{stops_at_last, text_is, next_place, has_text, next_texts, stops_writing, stops_for_memory, held_by, converted_by}
+use Rattle.sws_run.proofs.Runs.{stops_at_last, text_is, next_place, has_text, next_texts, stops_writing, stops_for_memory, held_by}
+use Rattle.sws_run.proofs.Runs.{converted_by}
 use Rattle.sws_run.proofs.run.convert_frames.Goals as goal
 
 pub loop-done-init : goal.loop-done-init

@@ -14,12 +14,14 @@ pub returns-clause-refused : goal.returns-clause-refused
 unfolding
     clap_on_literals command given_by takes_words options value_of source_given source_named target_given bars conversion_given
     sides_given making_given
-    is_misread is_missing is_stream_format is_unwanted lacks misreads task_by task_of is_value lookup row_named fault_named refused formats format_at
+    is_misread is_missing is_stream_format is_unwanted lacks misreads task_by task_of is_value lookup row_named fault_named refused formats
+    format_at
 returns-clause-refused c = refl
 
 pub returns-clause-accepted : goal.returns-clause-accepted
 unfolding
     clap_on_literals command given_by takes_words options value_of source_given source_named target_given bars conversion_given
     sides_given making_given
-    is_misread is_missing is_stream_format is_unwanted lacks misreads task_by task_of is_value lookup row_named fault_named refused formats format_at
+    is_misread is_missing is_stream_format is_unwanted lacks misreads task_by task_of is_value lookup row_named fault_named refused formats
+    format_at
 returns-clause-accepted c = refl

@@ -7,7 +7,8 @@ use Rattle.frac_math.specs.Checked.{Fits, QuotientFits}
 use Rattle.frac_math.proofs.FractionRing.{denominator_positive}
 use Rattle.frac_math.proofs.Reduction.{reduced_known}
 use Rattle.frac_math.proofs.CheckedCalls.{same_answer, checked_quotient_exact}
-use Rattle.frac_math.proofs.Quotient.{sign_is, sign_not_zero, sign_zero, part_fits, number_is, numerator_is, denominator_is, denominator_above, quotient_is, positive_size}
+use Rattle.frac_math.proofs.Quotient.{sign_is, sign_not_zero, sign_zero, part_fits, number_is, numerator_is, denominator_is}
+use Rattle.frac_math.proofs.Quotient.{denominator_above, quotient_is, positive_size}
 use Rattle.frac_math.proofs.frac.Frac.checked_div.Goals as goal
 
 pub returns-then-sign-eq0-clause-value : goal.returns-then-sign-eq0-clause-value

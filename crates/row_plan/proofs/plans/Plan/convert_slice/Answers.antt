@@ -15,5 +15,6 @@ returns c =
     let pixels : c.loop-row.row * slice.width ≡ slice.width * slice.rows = rw all (grind arith) in
     all_converted plan.pair slice.width slice.rows slice.first input c.loop-row.output plan.valid plan.plain
     (are_bytes c.loop-row.output c.loop-row.invariant.bytes) (c.loop-row.invariant.size ∙ c.requires.output)
-    (subst (λ n. HaveSameElements (element_type plan.pair.to.desc) (element_counts plan.pair.to.desc) slice.width slice.rows n c.loop-row.output
+    (subst (λ n. HaveSameElements (element_type plan.pair.to.desc)
+    (element_counts plan.pair.to.desc) slice.width slice.rows n c.loop-row.output
     (target_rows plan.pair slice.width slice.rows slice.first input)) pixels c.loop-row.invariant.converted)

@@ -30,7 +30,8 @@ fetch_add-requires g c =
           (ShowsLawful work.number_of work.origin work.is_done key.hands origins) slots c.exchange.new.seat.id m 1
           (λ n. (n + 1) % 2 ^ 64) (Finishes (step slots 1 1 0 none) m))
           (sym {A = Me (Option g.row.J.Denot) View} c.exchange.ensures.3)
-          (lands work.number_of work.origin work.is_done key.hands origins slots c.exchange.new.seat.id number hand.seat.me.0 c.args.held.job
+          (lands work.number_of work.origin work.is_done key.hands origins slots c.exchange.new.seat.id number hand.seat.me.0
+          c.args.held.job
           (rest hand.seat.me.1) hand.live c.requires.holds
           (c.requires.job.0, c.requires.job.1 ∙ ap (λ o. get_or o number []) (sym c.requires.own.2)) c.requires.done),
     )
