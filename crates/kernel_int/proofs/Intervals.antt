@@ -11,8 +11,8 @@ use Rattle.frac_math.proofs.Ring.{ring_from, var, num, ◌⊗◌, ◌⊕◌, min
 use Rattle.frac_math.proofs.Integers.{ints_ring}
 use Rattle.kernel_int.specs.Rules.{with_product, row_sum, RowFits, IsAdded, IsNextSum}
 use Rattle.kernel_int.specs.declared.form.Form.{Form}
-use Rattle.kernel_int.specs.declared.form.Tier.{Tier}
-use Rattle.kernel_int.specs.declared.form.Tier.TheVariants.{Narrow, Wide, Huge}
+use Rattle.kernel_int.specs.declared.form.NumberWidth.{NumberWidth}
+use Rattle.kernel_int.specs.declared.form.NumberWidth.TheVariants.{Bits32, Bits64, Bits128}
 use Rattle.kernel_int.specs.Forms.{factor, extent_at, width_of, HasNumbers, IsRange}
 
 pub product_grows : (k a b : ℤ) → pos 0 ≤ℤ k → a ≤ℤ b → (k *ℤ a) ≤ℤ (k *ℤ b)
@@ -185,14 +185,14 @@ row_range w before factors constant l0 h0 l1 h1 l2 h2 l3 h3 is fits s0 s1 s2 s3 
   inside = λ numbers has. let k = row_known w before factors constant l0 h0 l1 h1 l2 h2 l3 h3 is fits s0 s1 s2 s3 numbers has in (k.1, k.2);
 }
 
--- what fits a tier fits 128 bits
-pub wide_fits : (tier : Tier) (z : ℤ) → FitsSigned (width_of tier) z → FitsSigned w128 z
-wide_fits Narrow z fits = omega (arith, ints, fits)
-wide_fits Wide z fits = omega (arith, ints, fits)
-wide_fits Huge z fits = fits
+-- what fits a number_width fits 128 bits
+pub wide_fits : (number_width : NumberWidth) (z : ℤ) → FitsSigned (width_of number_width) z → FitsSigned w128 z
+wide_fits Bits32 z fits = omega (arith, ints, fits)
+wide_fits Bits64 z fits = omega (arith, ints, fits)
+wide_fits Bits128 z fits = fits
 
-pub tier_plain : (tier : Tier) (z : ℤ) → FitsSigned (width_of tier) z → to_z w128 (of_z w128 z) ≡ z
-tier_plain tier z fits = plain z (wide_fits tier z fits)
+pub number_width_plain : (number_width : NumberWidth) (z : ℤ) → FitsSigned (width_of number_width) z → to_z w128 (of_z w128 z) ≡ z
+number_width_plain number_width z fits = plain z (wide_fits number_width z fits)
 
 pub above_zero : (z : ℤ) → FitsSigned w128 z → le_z (to_z w128 (of_z w128 z)) (pos 0) ≡ false → pos 0 <ℤ z
 above_zero z fits h = let g : le_z z (pos 0) ≡ false = ap (λ t. le_z t (pos 0)) (sym (plain z fits)) ∙ h in grind (arith, ints)

@@ -24,9 +24,9 @@ use Rattle.kernel_int.specs.declared.form.Divisor.{Divisor}
 use Rattle.kernel_int.specs.declared.form.Divisor.TheVariants.{Short}
 use Rattle.kernel_int.specs.declared.form.Form.{Form}
 use Rattle.kernel_int.specs.declared.form.Storage.{Storage}
-use Rattle.kernel_int.specs.declared.form.Storage.TheVariants.{Bytes, Words, Longs}
-use Rattle.kernel_int.specs.declared.form.Tier.{Tier}
-use Rattle.kernel_int.specs.declared.form.Tier.TheVariants.{Narrow, Wide, Huge}
+use Rattle.kernel_int.specs.declared.form.Storage.TheVariants.{Bytes, Words, DoubleWords}
+use Rattle.kernel_int.specs.declared.form.NumberWidth.{NumberWidth}
+use Rattle.kernel_int.specs.declared.form.NumberWidth.TheVariants.{Bits32, Bits64, Bits128}
 use Rattle.kernel_int.specs.Rules.{RowFits, row_sum}
 use Rattle.kernel_int.specs.ValueSteps.{IsDivided, IsMade}
 use Rattle.kernel_int.specs.Block.{Holds, AreBelow, pixel_at}
@@ -253,12 +253,12 @@ pub record IsKernel (ops : List Op) (forms : List Form) (bits : ℕ) (width : Wi
 abbrev pub bits_of : Storage → ℕ
 bits_of Bytes = 8
 bits_of Words = 16
-bits_of Longs = 32
+bits_of DoubleWords = 32
 
-abbrev pub width_of : Tier → Width
-width_of Narrow = w32
-width_of Wide = w64
-width_of Huge = w128
+abbrev pub width_of : NumberWidth → Width
+width_of Bits32 = w32
+width_of Bits64 = w64
+width_of Bits128 = w128
 
 -- each factor is 0, or its number lies in the bounds of a form
 abbrev pub HasNumbers : Form → List ℤ → (ℕ → ℤ) → Type 0

@@ -11,7 +11,7 @@ use crate::clear::clear_form;
 use crate::convert::convert_form;
 use crate::counts::total;
 use crate::dither::parts_wanted;
-use crate::form::{Form, Storage, Tier, kept_form, whole_form};
+use crate::form::{Form, NumberWidth, Storage, kept_form, whole_form};
 use crate::kernel::RowKernel;
 use crate::linear::linear_form;
 use crate::pack::pack_form;
@@ -51,20 +51,20 @@ fn needed_by_rows(rows: &[[Frac; 5]; 4], count: usize) -> usize {
     most
 }
 
-// The form after an operation, where a block of this tier holds all its numbers. `also` divides the
-// denominators of a Linear.
+// The form after an operation, where a block of this width of numbers holds all its numbers. `also`
+// divides the denominators of a Linear.
 fn form_after(
     op: &Op,
     stage: Stage,
     before: &Form,
     count: usize,
     storage: Storage,
-    tier: Tier,
+    number_width: NumberWidth,
     also: i128,
 ) -> Option<Form>
     ensures few { IfSome result (λ form. form.count ≤ 4) }
     ensures step { IfSome result (λ form. IsStep (bits_of storage)
-        (width_of tier) stage before.now op.now form) }
+        (width_of number_width) stage before.now op.now form) }
 {
     match op {
         Op::Read { .. } => None,
@@ -72,16 +72,25 @@ fn form_after(
         Op::SwapBytes => kept_form(before, count),
         Op::Unpack { .. } => unpack_form(before, count),
         Op::Pack { widths } => pack_form(widths, before, count),
-        Op::Clear { values } => clear_form(values, stage, before, count, tier),
+        Op::Clear { values } => clear_form(values, stage, before, count, number_width),
         Op::LeftShift { .. } => kept_form(before, count),
         Op::RightShift { .. } => kept_form(before, count),
         Op::Swizzle { from } => swizzle_form(from, before, count),
         Op::Convert { to, expand } => convert_form(
-            *to, *expand, stage, before, count, storage, tier,
+            *to,
+            *expand,
+            stage,
+            before,
+            count,
+            storage,
+            number_width,
         ),
-        Op::Linear { rows } => linear_form(rows, before, count, tier, also),
+        Op::Linear { rows } => linear_form(rows, before, count, number_width, also),
         Op::Dither { .. } | Op::Scale { .. } | Op::Min { .. } | Op::Max { .. } => value_form(
-            op, before, count, tier,
+            op,
+            before,
+            count,
+            number_width,
         ),
     }
 }
@@ -93,14 +102,15 @@ fn wanted_behind(ops: &[Op], k: usize) -> i128
     parts_wanted(&ops[k + 1])
 }
 
-// The forms after the operations of a list, where a block of this tier holds all their numbers.
+// The forms after the operations of a list, where a block of this width of numbers holds all their
+// numbers.
 // `counts` says how many values are wanted after each.
 fn forms_of(
     alloc: Global,
     ops: &[Op],
     counts: &[usize; 24],
     storage: Storage,
-    tier: Tier,
+    number_width: NumberWidth,
 ) -> Result<Option<Vec<Form>>, OutOfMemory>
     requires sound { IsOpList ops.now }
     requires some { 2 ≤ length ops.now }
@@ -108,7 +118,7 @@ fn forms_of(
         ≡ length ops.now)) }
     ensures few { IfOk result (λ found. IfSome found (λ forms. AreFew forms.items)) }
     ensures steps { IfOk result (λ found. IfSome found (λ forms. AreSteps ops.now forms.items
-        (bits_of storage) (width_of tier) (length ops.now - 1))) }
+        (bits_of storage) (width_of number_width) (length ops.now - 1))) }
 {
     let mut forms = Vec::new(alloc);
     forms.push(whole_form(4))?;
@@ -121,7 +131,7 @@ fn forms_of(
             &forms[k - 1],
             counts[k],
             storage,
-            tier,
+            number_width,
             also,
         ) {
             Some(form) => forms.push(form)?,
@@ -169,7 +179,7 @@ fn wider(storage: Storage, stage: Stage) -> Storage
     ensures storage { 2 ^ bits_of storage ≤ 2 ^ bits_of result }
 {
     match (storage, stage) {
-        (_, Stage::Typed(PixType::U32)) | (Storage::Longs, _) => Storage::Longs,
+        (_, Stage::Typed(PixType::U32)) | (Storage::DoubleWords, _) => Storage::DoubleWords,
         (_, Stage::Typed(PixType::U16)) | (Storage::Words, _) => Storage::Words,
         _ => Storage::Bytes,
     }
@@ -188,12 +198,12 @@ fn copied(alloc: Global, ops: &[Op]) -> Result<Vec<Op>, OutOfMemory>
     Ok(copies)
 }
 
-// The kernel of a list whose numerators have this tier, where they fit.
-fn in_tier(
+// The kernel of a list whose numerators have this width of numbers, where they fit.
+fn in_number_width(
     alloc: Global,
     ops: &[Op],
     storage: Storage,
-    tier: Tier,
+    number_width: NumberWidth,
 ) -> Result<Option<RowKernel>, OutOfMemory>
     requires sound { IsOpList ops.now }
     requires whole { ends_with_write ops.now ≡ true }
@@ -202,7 +212,7 @@ fn in_tier(
     ensures { IfOk result (λ found. IfSome found (λ kernel. kernel ≡ ops.now)) }
 {
     let counts = counts_of(ops);
-    let Some(forms) = forms_of(alloc, ops, &counts, storage, tier)? else {
+    let Some(forms) = forms_of(alloc, ops, &counts, storage, number_width)? else {
         return Ok(None);
     };
     if forms[ops.len() - 2].count < written(&ops[ops.len() - 1]) {
@@ -213,7 +223,7 @@ fn in_tier(
         ops,
         forms,
         storage,
-        tier,
+        number_width,
     }))
 }
 
@@ -236,11 +246,11 @@ pub fn compile(alloc: Global, list: &OpList) -> Result<Option<RowKernel>, OutOfM
 {
     let ops = list.ops();
     let storage = storage_of(ops);
-    if let Some(kernel) = in_tier(alloc, ops, storage, Tier::Narrow)? {
+    if let Some(kernel) = in_number_width(alloc, ops, storage, NumberWidth::Bits32)? {
         return Ok(Some(kernel));
     }
-    if let Some(kernel) = in_tier(alloc, ops, storage, Tier::Wide)? {
+    if let Some(kernel) = in_number_width(alloc, ops, storage, NumberWidth::Bits64)? {
         return Ok(Some(kernel));
     }
-    in_tier(alloc, ops, storage, Tier::Huge)
+    in_number_width(alloc, ops, storage, NumberWidth::Bits128)
 }

@@ -11,7 +11,7 @@ ghost use Rattle.kernel_int.specs.Forms.{IsBounded, IsStep, Performs, IsCleared,
 ghost use Rattle.kernel_int.specs.Forms.{cleared_numerator, extent_at, factor, factors_at};
 ghost use Rattle.kernel_int.specs.Forms.{width_of};
 
-use crate::form::{Extent, Form, NO_DIVISOR, Tier};
+use crate::form::{Extent, Form, NO_DIVISOR, NumberWidth};
 use crate::interval::fits;
 use crate::numerator::Numerator;
 use crate::single::{single_of, with_single};
@@ -142,11 +142,11 @@ pub fn clear_form(
     stage: Stage,
     before: &Form,
     count: usize,
-    tier: Tier,
+    number_width: NumberWidth,
 ) -> Option<Form>
     ensures few { IfSome result (λ form. form.count ≤ 4) }
     ensures step { IfSome result (λ form. (v : ℕ) → v < form.count
-        → IsCleared (width_of tier) (is_rational stage) before.now v (entry entries.now v)
+        → IsCleared (width_of number_width) (is_rational stage) before.now v (entry entries.now v)
         (factor (factors_at form v) 0) (extent_at form v)) }
 {
     if count > 4 {
@@ -160,7 +160,7 @@ pub fn clear_form(
         divisors: [NO_DIVISOR; 4],
     };
     for v in 0..count {
-        let value = cleared_value(&entries[v], stage.is_rational(), before, v, tier)?;
+        let value = cleared_value(&entries[v], stage.is_rational(), before, v, number_width)?;
         let factors = with_single(value.numerator);
         after.count += 1;
         after.factors[v] = factors;
@@ -182,16 +182,16 @@ fn cleared_value(
     rational: bool,
     before: &Form,
     v: usize,
-    tier: Tier,
+    number_width: NumberWidth,
 ) -> Option<Cleared>
     requires { v < 4 }
     ensures cleared { IfSome result (λ cleared. IsCleared
-        (width_of tier) rational before.now v entry.now cleared.numerator cleared.extent) }
+        (width_of number_width) rational before.now v entry.now cleared.numerator cleared.extent) }
     ensures fits { IfSome result (λ cleared. FitsSigned w128 cleared.numerator) }
 {
     match entry {
         None => kept_value(before, v),
-        Some(x) => given_value(x, rational, tier),
+        Some(x) => given_value(x, rational, number_width),
     }
 }
 
@@ -210,13 +210,13 @@ fn kept_value(before: &Form, v: usize) -> Option<Cleared>
     })
 }
 
-fn given_value(x: &Frac, rational: bool, tier: Tier) -> Option<Cleared>
+fn given_value(x: &Frac, rational: bool, number_width: NumberWidth) -> Option<Cleared>
     ensures constant { IfSome result (λ cleared. IsTrue rational
-        → IsConstant (width_of tier) x.now cleared.numerator cleared.extent) }
+        → IsConstant (width_of number_width) x.now cleared.numerator cleared.extent) }
     ensures fits { IfSome result (λ cleared. FitsSigned w128 cleared.numerator) }
 {
     let numerator = x.num();
-    if rational && !fits(numerator, tier) {
+    if rational && !fits(numerator, number_width) {
         return None;
     }
     Some(Cleared {

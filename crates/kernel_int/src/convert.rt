@@ -6,7 +6,7 @@ ghost use Rattle.op_list.specs.declared.types.PixType.TheVariants.{Rat};
 ghost use Rattle.kernel_int.specs.Forms.{AreKept, AreNarrowed, AreWidened, IsBounded, IsStep};
 ghost use Rattle.kernel_int.specs.Forms.{Performs, bits_of, width_of};
 
-use crate::form::{Form, Storage, Tier, kept_form};
+use crate::form::{Form, NumberWidth, Storage, kept_form};
 use crate::numerator::Numerator;
 use crate::to_fractions::{widen_form, widen_step};
 use crate::to_whole::{narrow_form, narrow_step};
@@ -110,22 +110,28 @@ pub fn convert_form(
     before: &Form,
     count: usize,
     storage: Storage,
-    tier: Tier,
+    number_width: NumberWidth,
 ) -> Option<Form>
     ensures few { IfSome result (λ form. form.count ≤ 4) }
-    ensures step { IfSome result (λ form. IsStep (bits_of storage) (width_of tier) stage before.now
+    ensures step { IfSome result (λ form. IsStep (bits_of storage)
+        (width_of number_width) stage before.now
         (Op.Convert to _expand) form) }
 {
     if stage.is_rational() {
         match to {
             PixType::Rat => kept_form(before, count),
             PixType::U8 | PixType::U16 | PixType::U32 => narrow_form(
-                to, stage, before, count, storage, tier,
+                to,
+                stage,
+                before,
+                count,
+                storage,
+                number_width,
             ),
         }
     } else {
         match to {
-            PixType::Rat => widen_form(stage, before, count, tier),
+            PixType::Rat => widen_form(stage, before, count, number_width),
             PixType::U8 | PixType::U16 | PixType::U32 => kept_form(before, count),
         }
     }

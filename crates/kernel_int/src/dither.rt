@@ -7,7 +7,7 @@ ghost use Rattle.frac_math.specs.Standing.{Stands};
 ghost use Rattle.kernel_int.specs.Forms.{factor, width_of};
 ghost use Rattle.kernel_int.specs.ValueSteps.{AreIn, IsDithered, MakesValue, NumbersDither};
 
-use crate::form::{Extent, Tier};
+use crate::form::{Extent, NumberWidth};
 use crate::interval::added;
 use crate::made::Made;
 use crate::numerator::Numerator;
@@ -172,8 +172,9 @@ fn with_unit(k: i128, unit: i128) -> [i128; 5]
 }
 
 /// What a Dither makes of the numbers of an extent.
-pub fn dithered(old: &Extent, k: u8, tier: Tier) -> Option<Made>
-    ensures { IfSome result (λ made. IsDithered (width_of tier) old.now k (factor made.factors 0)
+pub fn dithered(old: &Extent, k: u8, number_width: NumberWidth) -> Option<Made>
+    ensures { IfSome result (λ made. IsDithered (width_of number_width) old.now k
+        (factor made.factors 0)
         (factor made.factors 1) made.extent) }
 {
     if k > 4 {
@@ -181,10 +182,10 @@ pub fn dithered(old: &Extent, k: u8, tier: Tier) -> Option<Made>
     }
     let parts = parts_of(k);
     let factor = multiple_for(old.denominator, parts)?;
-    let scaled = multiplied(old, factor, tier)?;
+    let scaled = multiplied(old, factor, number_width)?;
     let unit = whole_quotient(scaled.denominator, parts)?;
     let most = difference_of(scaled.denominator, unit)?;
-    let range = added(scaled.least, scaled.greatest, unit, most, tier)?;
+    let range = added(scaled.least, scaled.greatest, unit, most, number_width)?;
     let factors = with_unit(factor, unit);
     Some(Made {
         factors,

@@ -57,15 +57,15 @@ pub struct Form {
 pub enum Storage {
     Bytes,
     Words,
-    Longs,
+    DoubleWords,
 }
 
 /// How many bits a block has for each numerator: 32, 64 or 128.
 #[derive(Clone, Copy, Debug)]
-pub enum Tier {
-    Narrow,
-    Wide,
-    Huge,
+pub enum NumberWidth {
+    Bits32,
+    Bits64,
+    Bits128,
 }
 
 /// Where nothing is divided.
@@ -79,7 +79,7 @@ impl Storage {
         match self {
             Storage::Bytes => 8,
             Storage::Words => 16,
-            Storage::Longs => 32,
+            Storage::DoubleWords => 32,
         }
     }
 }

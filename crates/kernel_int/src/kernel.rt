@@ -5,7 +5,7 @@ ghost use Rattle.op_list.specs.Run.{run, read_length};
 ghost use Rattle.kernel_int.specs.Block.{IsOtherRow, position_at};
 ghost use Rattle.kernel_int.specs.Forms.{IsKernel, last_op, planes_of, elem_of, bits_of, width_of};
 
-use crate::form::{Form, Storage, Tier};
+use crate::form::{Form, NumberWidth, Storage};
 use crate::row::run_blocks;
 use crate::whole_number::WholeNumber;
 use op_list::Op;
@@ -17,7 +17,7 @@ pub struct RowKernel {
     pub(crate) ops: Vec<Op>,
     pub(crate) forms: Vec<Form>,
     pub(crate) storage: Storage,
-    pub(crate) tier: Tier,
+    pub(crate) number_width: NumberWidth,
 }
 
 impl Model for RowKernel {
@@ -31,7 +31,7 @@ impl Model for RowKernel {
     ghost view = { λ k. k.ops.items };
 
     ghost invariant = { λ k. IsKernel k.ops.items k.forms.items (bits_of k.storage)
-        (width_of k.tier) };
+        (width_of k.number_width) };
 }
 
 impl RowKernel {
@@ -59,7 +59,7 @@ impl RowKernel {
                 run_stored(
                     &self.ops,
                     &self.forms,
-                    self.tier,
+                    self.number_width,
                     input,
                     output,
                     width,
@@ -76,7 +76,7 @@ impl RowKernel {
                 run_stored(
                     &self.ops,
                     &self.forms,
-                    self.tier,
+                    self.number_width,
                     input,
                     output,
                     width,
@@ -87,13 +87,13 @@ impl RowKernel {
                     &mut spare,
                 )
             }
-            Storage::Longs => {
+            Storage::DoubleWords => {
                 let mut values = [0u32; 256];
                 let mut spare = [0u32; 256];
                 run_stored(
                     &self.ops,
                     &self.forms,
-                    self.tier,
+                    self.number_width,
                     input,
                     output,
                     width,
@@ -112,7 +112,7 @@ impl RowKernel {
 fn run_stored<W: WholeNumber>(
     ops: &[Op],
     forms: &[Form],
-    tier: Tier,
+    number_width: NumberWidth,
     input: &[u8],
     output: &mut [u8],
     width: u32,
@@ -122,7 +122,7 @@ fn run_stored<W: WholeNumber>(
     values: &mut [W],
     spare: &mut [W],
 )
-    requires stored { IsKernel ops.now forms.now W.bits (width_of tier) }
+    requires stored { IsKernel ops.now forms.now W.bits (width_of number_width) }
     requires input { length input.now ≡ read_length ops.now width rows }
     requires output { length output.old ≡ frame_length (last_op ops.now) width rows }
     requires row { row < rows }
@@ -135,8 +135,8 @@ fn run_stored<W: WholeNumber>(
         → element_of (elem_of (last_op ops.now)) (planes_of (last_op ops.now)) output.new other v
         ≡ element_of (elem_of (last_op ops.now)) (planes_of (last_op ops.now)) output.old other v }
 {
-    match tier {
-        Tier::Narrow => {
+    match number_width {
+        NumberWidth::Bits32 => {
             let mut numbers = [0i32; 256];
             let mut sums = [0i32; 256];
             run_blocks(
@@ -154,7 +154,7 @@ fn run_stored<W: WholeNumber>(
                 &mut sums,
             )
         }
-        Tier::Wide => {
+        NumberWidth::Bits64 => {
             let mut numbers = [0i64; 256];
             let mut sums = [0i64; 256];
             run_blocks(
@@ -172,7 +172,7 @@ fn run_stored<W: WholeNumber>(
                 &mut sums,
             )
         }
-        Tier::Huge => {
+        NumberWidth::Bits128 => {
             let mut numbers = [0i128; 256];
             let mut sums = [0i128; 256];
             run_blocks(

@@ -6,7 +6,7 @@ ghost use Rattle.kernel_int.specs.Forms.{factor, width_of};
 ghost use Rattle.kernel_int.specs.Rules.{nearest};
 ghost use Rattle.kernel_int.specs.ValueSteps.{IsScaled};
 
-use crate::form::{Extent, Tier};
+use crate::form::{Extent, NumberWidth};
 use crate::interval::fits;
 use crate::made::Made;
 use crate::numerator::Numerator;
@@ -57,22 +57,23 @@ pub struct CommonExtent {
     pub limit: i128,
 }
 
-/// Brings an extent and a limit over one denominator, where a tier holds all of it.
-pub fn bring_over_one(old: &Extent, limit: &Frac, tier: Tier) -> Option<CommonExtent>
-    ensures scaled { IfSome result (λ both. IsScaled (width_of tier) old.now
+/// Brings an extent and a limit over one denominator, where a width of numbers holds all of it.
+pub fn bring_over_one(old: &Extent, limit: &Frac, number_width: NumberWidth) -> Option<CommonExtent>
+    ensures scaled { IfSome result (λ both. IsScaled (width_of number_width) old.now
         (nat 1) both.factor both.extent) }
     ensures positive { IfSome result (λ both. pos 0 <ℤ both.extent.denominator) }
     ensures ordered { IfSome result (λ both. both.extent.least ≤ℤ both.extent.greatest) }
-    ensures least { IfSome result (λ both. FitsSigned (width_of tier) both.extent.least) }
-    ensures greatest { IfSome result (λ both. FitsSigned (width_of tier) both.extent.greatest) }
+    ensures least { IfSome result (λ both. FitsSigned (width_of number_width) both.extent.least) }
+    ensures greatest { IfSome result
+        (λ both. FitsSigned (width_of number_width) both.extent.greatest) }
     ensures number { IfSome result (λ both. both.limit *ℤ pos limit.now.denominator
         ≡ limit.now.numerator *ℤ both.extent.denominator) }
-    ensures fits { IfSome result (λ both. FitsSigned (width_of tier) both.limit) }
+    ensures fits { IfSome result (λ both. FitsSigned (width_of number_width) both.limit) }
 {
     let factor = multiple_for(old.denominator, limit.den())?;
-    let extent = multiplied(old, factor, tier)?;
+    let extent = multiplied(old, factor, number_width)?;
     let number = number_over(limit, extent.denominator)?;
-    if !fits(number, tier) {
+    if !fits(number, number_width) {
         return None;
     }
     if extent.least > extent.greatest {
@@ -86,11 +87,11 @@ pub fn bring_over_one(old: &Extent, limit: &Frac, tier: Tier) -> Option<CommonEx
 }
 
 /// What no limit makes of the numbers of an extent: the same.
-pub fn unlimited(old: &Extent, tier: Tier) -> Option<Made>
-    ensures { IfSome result (λ made. IsScaled (width_of tier) old.now (nat 1)
+pub fn unlimited(old: &Extent, number_width: NumberWidth) -> Option<Made>
+    ensures { IfSome result (λ made. IsScaled (width_of number_width) old.now (nat 1)
         (factor made.factors 0) made.extent) }
 {
-    let extent = multiplied(old, 1, tier)?;
+    let extent = multiplied(old, 1, number_width)?;
     let factors = with_single(1);
     Some(Made { factors, extent })
 }

@@ -6,7 +6,7 @@ ghost use Rattle.kernel_int.specs.Forms.{width_of};
 ghost use Rattle.op_list.specs.Apply.{row_of};
 
 use crate::common::common_denominator;
-use crate::form::{Form, NO_DIVISOR, Tier};
+use crate::form::{Form, NO_DIVISOR, NumberWidth};
 use crate::numerator::Numerator;
 use crate::rational::row_of_sums;
 use crate::row_form::formed_row;
@@ -56,12 +56,12 @@ pub fn linear_form(
     rows: &[[Frac; 5]; 4],
     before: &Form,
     count: usize,
-    tier: Tier,
+    number_width: NumberWidth,
     also: i128,
 ) -> Option<Form>
     ensures few { IfSome result (λ form. form.count ≤ 4) }
     ensures rows { IfSome result (λ form. (v : ℕ) → v < form.count
-        → IsRow (width_of tier) before.now (row_of rows.now v) (factors_at form v)
+        → IsRow (width_of number_width) before.now (row_of rows.now v) (factors_at form v)
         (extent_at form v)) }
 {
     if count > 4 {
@@ -76,7 +76,7 @@ pub fn linear_form(
     };
     for v in 0..count {
         let d = common_denominator(&rows[v], before, also)?;
-        let row = formed_row(&rows[v], before, d, tier)?;
+        let row = formed_row(&rows[v], before, d, number_width)?;
         after.count += 1;
         let factors = row.factors;
         after.factors[v] = factors;

@@ -5,7 +5,7 @@ ghost use Rattle.op_list.specs.Apply.{at_most};
 ghost use Rattle.kernel_int.specs.Forms.{factor, width_of};
 ghost use Rattle.kernel_int.specs.ValueSteps.{AreIn, IsAtMost, IsMinimum, MakesValue};
 
-use crate::form::{Extent, Tier};
+use crate::form::{Extent, NumberWidth};
 use crate::limit::{bring_over_one, hold_inside, unlimited};
 use crate::made::Made;
 use crate::numerator::Numerator;
@@ -37,11 +37,11 @@ pub fn min_value<N: Numerator>(
 }
 
 // The numbers of an extent, but at most a limit.
-fn at_most_limit(old: &Extent, limit: &Frac, tier: Tier) -> Option<Made>
-    ensures { IfSome result (λ made. IsMinimum (width_of tier) old.now limit.now
+fn at_most_limit(old: &Extent, limit: &Frac, number_width: NumberWidth) -> Option<Made>
+    ensures { IfSome result (λ made. IsMinimum (width_of number_width) old.now limit.now
         (factor made.factors 0) made.extent) }
 {
-    let both = bring_over_one(old, limit, tier)?;
+    let both = bring_over_one(old, limit, number_width)?;
     let factors = with_single(both.factor);
     Some(Made {
         factors,
@@ -54,12 +54,12 @@ fn at_most_limit(old: &Extent, limit: &Frac, tier: Tier) -> Option<Made>
 }
 
 /// What a Min makes of the numbers of an extent.
-pub fn made_at_most(old: &Extent, limit: &Option<Frac>, tier: Tier) -> Option<Made>
-    ensures { IfSome result (λ made. IsAtMost (width_of tier) old.now limit.now
+pub fn made_at_most(old: &Extent, limit: &Option<Frac>, number_width: NumberWidth) -> Option<Made>
+    ensures { IfSome result (λ made. IsAtMost (width_of number_width) old.now limit.now
         (factor made.factors 0) made.extent) }
 {
     match limit {
-        None => unlimited(old, tier),
-        Some(limit) => at_most_limit(old, limit, tier),
+        None => unlimited(old, number_width),
+        Some(limit) => at_most_limit(old, limit, number_width),
     }
 }

@@ -7,7 +7,7 @@ ghost use Rattle.op_list.specs.declared.types.PixType.TheVariants.{U8, U16, U32}
 ghost use Rattle.kernel_int.specs.Block.{pixel_at, Holds, AreBelow};
 
 use crate::counts::total;
-use crate::pick::{pick_bytes, pick_longs, pick_words};
+use crate::gather::{gather_bytes, gather_double_words, gather_words};
 use crate::stride::{Stride, stride_of};
 use crate::whole_number::WholeNumber;
 use op_list::{PixType, PixelPosition};
@@ -36,7 +36,7 @@ fn read_value<W: WholeNumber>(
     match elem {
         PixType::U8 => read_bytes(from, stride, n, v, values),
         PixType::U16 => read_words(from, stride, n, v, values),
-        PixType::U32 => read_longs(from, stride, n, v, values),
+        PixType::U32 => read_double_words(from, stride, n, v, values),
         PixType::Rat => {}
     }
 }
@@ -54,10 +54,10 @@ fn read_bytes<W: WholeNumber>(from: &[u8], stride: Stride, n: usize, v: usize, v
         → slice_index_or values.new j d ≡ slice_index_or values.old j d }
 {
     match stride.step {
-        1 => pick_bytes::<W, 1>(from, stride.start, n, v, values),
-        2 => pick_bytes::<W, 2>(from, stride.start, n, v, values),
-        3 => pick_bytes::<W, 3>(from, stride.start, n, v, values),
-        _ => pick_bytes::<W, 4>(from, stride.start, n, v, values),
+        1 => gather_bytes::<W, 1>(from, stride.start, n, v, values),
+        2 => gather_bytes::<W, 2>(from, stride.start, n, v, values),
+        3 => gather_bytes::<W, 3>(from, stride.start, n, v, values),
+        _ => gather_bytes::<W, 4>(from, stride.start, n, v, values),
     }
 }
 
@@ -74,15 +74,21 @@ fn read_words<W: WholeNumber>(from: &[u8], stride: Stride, n: usize, v: usize, v
         → slice_index_or values.new j d ≡ slice_index_or values.old j d }
 {
     match stride.step {
-        1 => pick_words::<W, 1>(from, stride.start, n, v, values),
-        2 => pick_words::<W, 2>(from, stride.start, n, v, values),
-        3 => pick_words::<W, 3>(from, stride.start, n, v, values),
-        _ => pick_words::<W, 4>(from, stride.start, n, v, values),
+        1 => gather_words::<W, 1>(from, stride.start, n, v, values),
+        2 => gather_words::<W, 2>(from, stride.start, n, v, values),
+        3 => gather_words::<W, 3>(from, stride.start, n, v, values),
+        _ => gather_words::<W, 4>(from, stride.start, n, v, values),
     }
 }
 
 // The same, of 32 bits.
-fn read_longs<W: WholeNumber>(from: &[u8], stride: Stride, n: usize, v: usize, values: &mut [W])
+fn read_double_words<W: WholeNumber>(
+    from: &[u8],
+    stride: Stride,
+    n: usize,
+    v: usize,
+    values: &mut [W],
+)
     requires bits { 2 ^ 32 ≤ 2 ^ W.bits }
     requires block { (v < 4) × (n ≤ 64) × (length values.old ≡ 256) }
     requires step { (0 < stride.step) × (stride.step ≤ 4) }
@@ -94,10 +100,10 @@ fn read_longs<W: WholeNumber>(from: &[u8], stride: Stride, n: usize, v: usize, v
         → slice_index_or values.new j d ≡ slice_index_or values.old j d }
 {
     match stride.step {
-        1 => pick_longs::<W, 1>(from, stride.start, n, v, values),
-        2 => pick_longs::<W, 2>(from, stride.start, n, v, values),
-        3 => pick_longs::<W, 3>(from, stride.start, n, v, values),
-        _ => pick_longs::<W, 4>(from, stride.start, n, v, values),
+        1 => gather_double_words::<W, 1>(from, stride.start, n, v, values),
+        2 => gather_double_words::<W, 2>(from, stride.start, n, v, values),
+        3 => gather_double_words::<W, 3>(from, stride.start, n, v, values),
+        _ => gather_double_words::<W, 4>(from, stride.start, n, v, values),
     }
 }
 

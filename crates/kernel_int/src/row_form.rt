@@ -4,7 +4,7 @@ ghost use Rattle.std.specs.Prelude.{FitsSigned, unsigned_abs};
 ghost use Rattle.std.specs.Int.{w128};
 ghost use Rattle.kernel_int.specs.Forms.{width_of, factor, IsTerm, IsRow, IsZero};
 
-use crate::form::{Extent, Form, Tier};
+use crate::form::{Extent, Form, NumberWidth};
 use crate::interval::{fits, row_interval};
 use frac_math::Frac;
 
@@ -91,11 +91,12 @@ pub fn number_over(constant: &Frac, d: i128) -> Option<i128>
 }
 
 // Whether all factors of a row fit.
-fn all_fit(factors: &[i128; 5], tier: Tier) -> bool
-    ensures { result ≡ true → (j : ℕ) → j < 5 → FitsSigned (width_of tier) (factor factors.now j) }
+fn all_fit(factors: &[i128; 5], number_width: NumberWidth) -> bool
+    ensures { result ≡ true → (j : ℕ) → j < 5
+        → FitsSigned (width_of number_width) (factor factors.now j) }
 {
     for k in factors {
-        if !fits(*k, tier) {
+        if !fits(*k, number_width) {
             return false;
         }
     }
@@ -109,12 +110,12 @@ pub struct Row {
     pub extent: Extent,
 }
 
-/// The row of factors of a row of coefficients over the denominator d, where a tier holds all that
-/// it works out.
-pub fn formed_row(row: &[Frac; 5], before: &Form, d: i128, tier: Tier) -> Option<Row>
+/// The row of factors of a row of coefficients over the denominator d, where a width of numbers
+/// holds all that it works out.
+pub fn formed_row(row: &[Frac; 5], before: &Form, d: i128, number_width: NumberWidth) -> Option<Row>
     requires { pos 0 <ℤ d }
     ensures { IfSome result (λ made. IsRow
-        (width_of tier) before.now row.now made.factors made.extent) }
+        (width_of number_width) before.now row.now made.factors made.extent) }
 {
     let factors = [
         factor_of(&row[0], before, 0, d)?,
@@ -123,10 +124,10 @@ pub fn formed_row(row: &[Frac; 5], before: &Form, d: i128, tier: Tier) -> Option
         factor_of(&row[3], before, 3, d)?,
         number_over(&row[4], d)?,
     ];
-    if !all_fit(&factors, tier) {
+    if !all_fit(&factors, number_width) {
         return None;
     }
-    let range = row_interval(&factors, before, tier)?;
+    let range = row_interval(&factors, before, number_width)?;
     Some(Row {
         factors,
         extent: Extent {

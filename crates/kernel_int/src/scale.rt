@@ -7,7 +7,7 @@ ghost use Rattle.kernel_int.specs.Forms.{factor, width_of};
 ghost use Rattle.kernel_int.specs.ValueSteps.{AreIn, IsScaled, MakesValue};
 
 use crate::common::common_part;
-use crate::form::{Extent, Tier};
+use crate::form::{Extent, NumberWidth};
 use crate::interval::{fits, next_interval};
 use crate::made::Made;
 use crate::numerator::Numerator;
@@ -98,13 +98,19 @@ fn is_factor(old: i128, by: &Frac, k: i128, new: i128) -> Option<bool>
 }
 
 /// The numbers of an extent times k, over a new denominator, where that is `by` times their
-/// fractions and a tier holds
+/// fractions and a width of numbers holds
 /// all of it.
-pub fn scaled_by(old: &Extent, by: &Frac, k: i128, denominator: i128, tier: Tier) -> Option<Extent>
-    ensures scaled { IfSome result (λ new. IsScaled (width_of tier) old.now by.now k new) }
+pub fn scaled_by(
+    old: &Extent,
+    by: &Frac,
+    k: i128,
+    denominator: i128,
+    number_width: NumberWidth,
+) -> Option<Extent>
+    ensures scaled { IfSome result (λ new. IsScaled (width_of number_width) old.now by.now k new) }
     ensures positive { IfSome result (λ new. pos 0 <ℤ new.denominator) }
-    ensures least { IfSome result (λ new. FitsSigned (width_of tier) new.least) }
-    ensures greatest { IfSome result (λ new. FitsSigned (width_of tier) new.greatest) }
+    ensures least { IfSome result (λ new. FitsSigned (width_of number_width) new.least) }
+    ensures greatest { IfSome result (λ new. FitsSigned (width_of number_width) new.greatest) }
 {
     if old.denominator <= 0 {
         return None;
@@ -115,10 +121,10 @@ pub fn scaled_by(old: &Extent, by: &Frac, k: i128, denominator: i128, tier: Tier
     if !is_factor(old.denominator, by, k, denominator)? {
         return None;
     }
-    if !fits(k, tier) {
+    if !fits(k, number_width) {
         return None;
     }
-    let range = next_interval(0, 0, k, old.least, old.greatest, tier)?;
+    let range = next_interval(0, 0, k, old.least, old.greatest, number_width)?;
     Some(Extent {
         denominator,
         least: range.0,
@@ -127,14 +133,14 @@ pub fn scaled_by(old: &Extent, by: &Frac, k: i128, denominator: i128, tier: Tier
 }
 
 /// The same fractions over k times the denominator.
-pub fn multiplied(old: &Extent, k: i128, tier: Tier) -> Option<Extent>
-    ensures scaled { IfSome result (λ new. IsScaled (width_of tier) old.now (nat 1) k new) }
+pub fn multiplied(old: &Extent, k: i128, number_width: NumberWidth) -> Option<Extent>
+    ensures scaled { IfSome result (λ new. IsScaled (width_of number_width) old.now (nat 1) k new) }
     ensures positive { IfSome result (λ new. pos 0 <ℤ new.denominator) }
-    ensures least { IfSome result (λ new. FitsSigned (width_of tier) new.least) }
-    ensures greatest { IfSome result (λ new. FitsSigned (width_of tier) new.greatest) }
+    ensures least { IfSome result (λ new. FitsSigned (width_of number_width) new.least) }
+    ensures greatest { IfSome result (λ new. FitsSigned (width_of number_width) new.greatest) }
 {
     let denominator = product_of(old.denominator, k)?;
-    scaled_by(old, &Frac::whole(1), k, denominator, tier)
+    scaled_by(old, &Frac::whole(1), k, denominator, number_width)
 }
 
 /// The least k by which a denominator becomes a multiple of another one.
@@ -144,14 +150,14 @@ pub fn multiple_for(denominator: i128, other: i128) -> Option<i128> {
 }
 
 /// What a Scale makes of the numbers of an extent, over the least denominator.
-pub fn scaled(old: &Extent, by: &Frac, tier: Tier) -> Option<Made>
-    ensures { IfSome result (λ made. IsScaled (width_of tier) old.now by.now
+pub fn scaled(old: &Extent, by: &Frac, number_width: NumberWidth) -> Option<Made>
+    ensures { IfSome result (λ made. IsScaled (width_of number_width) old.now by.now
         (factor made.factors 0) made.extent) }
 {
     let common = common_part(by.num(), old.denominator)?;
     let k = by.num() / common;
     let denominator = product_of(old.denominator / common, by.den())?;
-    let extent = scaled_by(old, by, k, denominator, tier)?;
+    let extent = scaled_by(old, by, k, denominator, number_width)?;
     let factors = with_single(k);
     Some(Made { factors, extent })
 }

@@ -257,7 +257,7 @@ fn whole_numbers(rt: HostRuntime) {
         },
         write(PixType::U16, [1, 0, 0, 0]),
     ];
-    let longs = [
+    let double_words = [
         read(PixType::U32, [1, 0, 0, 0]),
         Op::SwapBytes,
         Op::Unpack {
@@ -282,7 +282,7 @@ fn whole_numbers(rt: HostRuntime) {
     assert!(rt; agrees_in_all_widths(rt.alloc(), &bytes));
     assert!(rt; agrees_in_all_widths(rt.alloc(), &words));
     assert!(rt; agrees_in_all_widths(rt.alloc(), &fields));
-    assert!(rt; agrees_in_all_widths(rt.alloc(), &longs));
+    assert!(rt; agrees_in_all_widths(rt.alloc(), &double_words));
     assert!(rt; agrees_in_all_widths(rt.alloc(), &palette));
 }
 

@@ -5,7 +5,7 @@ ghost use Rattle.op_list.specs.declared.types.PixType.TheVariants.{Rat};
 ghost use Rattle.op_list.specs.Typing.{stage_after};
 ghost use Rattle.kernel_int.specs.Forms.{AreWidened, IsBounded, IsWidened, Performs, width_of};
 
-use crate::form::{Extent, Form, NO_DIVISOR, Tier};
+use crate::form::{Extent, Form, NO_DIVISOR, NumberWidth};
 use crate::interval::fits;
 use crate::numerator::Numerator;
 use crate::whole_number::WholeNumber;
@@ -50,9 +50,15 @@ pub fn widen_step<W: WholeNumber, N: Numerator>(
 }
 
 /// The form after a Convert of whole numbers to fractions.
-pub fn widen_form(stage: Stage, before: &Form, count: usize, tier: Tier) -> Option<Form>
+pub fn widen_form(
+    stage: Stage,
+    before: &Form,
+    count: usize,
+    number_width: NumberWidth,
+) -> Option<Form>
     ensures few { IfSome result (λ form. form.count ≤ 4) }
-    ensures widened { IfSome result (λ form. AreWidened (width_of tier) stage before.now form) }
+    ensures widened { IfSome result (λ form. AreWidened
+        (width_of number_width) stage before.now form) }
 {
     if count > 4 {
         return None;
@@ -63,7 +69,7 @@ pub fn widen_form(stage: Stage, before: &Form, count: usize, tier: Tier) -> Opti
     if !stage.is_whole() {
         return None;
     }
-    let extent = widened(stage.bits(), tier)?;
+    let extent = widened(stage.bits(), number_width)?;
     Some(Form {
         count,
         extents: [extent; 4],
@@ -73,8 +79,8 @@ pub fn widen_form(stage: Stage, before: &Form, count: usize, tier: Tier) -> Opti
 }
 
 // The whole numbers of so many bits, over 1.
-fn widened(bits: u32, tier: Tier) -> Option<Extent>
-    ensures { IfSome result (λ extent. IsWidened (width_of tier) (2 ^ bits) extent) }
+fn widened(bits: u32, number_width: NumberWidth) -> Option<Extent>
+    ensures { IfSome result (λ extent. IsWidened (width_of number_width) (2 ^ bits) extent) }
 {
     let greatest = match bits {
         8 => 255,
@@ -82,7 +88,7 @@ fn widened(bits: u32, tier: Tier) -> Option<Extent>
         32 => 4_294_967_295,
         _ => return None,
     };
-    if !fits(greatest, tier) {
+    if !fits(greatest, number_width) {
         return None;
     }
     Some(Extent {

@@ -11,7 +11,9 @@ ghost use Rattle.kernel_int.specs.Forms.{extent_at, width_of};
 ghost use Rattle.kernel_int.specs.ValueSteps.{AreFloors, AreIn, IsDivided, IsQuotient};
 ghost use Rattle.kernel_int.specs.ValueSteps.{IsReciprocal};
 
-use crate::form::{Divisor, Extent, Form, LongReciprocal, NO_DIVISOR, Reciprocal, Storage, Tier};
+use crate::form::{
+    Divisor, Extent, Form, LongReciprocal, NO_DIVISOR, NumberWidth, Reciprocal, Storage,
+};
 use crate::interval::fits;
 use crate::numerator::Numerator;
 use crate::whole_number::WholeNumber;
@@ -228,11 +230,11 @@ pub fn narrow_form(
     before: &Form,
     count: usize,
     storage: Storage,
-    tier: Tier,
+    number_width: NumberWidth,
 ) -> Option<Form>
     ensures few { IfSome result (λ form. form.count ≤ 4) }
     ensures narrowed { IfSome result (λ form. AreNarrowed (bits_of storage)
-        (width_of tier) stage before.now to form) }
+        (width_of number_width) stage before.now to form) }
 {
     if count > 4 {
         return None;
@@ -254,7 +256,7 @@ pub fn narrow_form(
         divisors: [NO_DIVISOR; 4],
     };
     for v in 0..count {
-        let divisor = divisor_of(&before.extents[v], to.bits(), tier)?;
+        let divisor = divisor_of(&before.extents[v], to.bits(), number_width)?;
         after.count += 1;
         after.divisors[v] = divisor;
     }
@@ -278,11 +280,10 @@ pub fn plain_form(before: &Form, count: usize) -> Form
     }
 }
 
-// How the numbers of an extent are divided, where a tier holds the denominator: the fastest way
-// that is right for all of
-// them and whose quotients have so many bits.
-fn divisor_of(extent: &Extent, bits: u32, tier: Tier) -> Option<Divisor>
-    ensures { IfSome result (λ divisor. IsDivided (width_of tier) bits extent.now divisor) }
+// How the numbers of an extent are divided, where a width of numbers holds the denominator: the
+// fastest way that is right for all of them and whose quotients have so many bits.
+fn divisor_of(extent: &Extent, bits: u32, number_width: NumberWidth) -> Option<Divisor>
+    ensures { IfSome result (λ divisor. IsDivided (width_of number_width) bits extent.now divisor) }
 {
     if let Some(by) = short_divisor(extent, bits) {
         return Some(Divisor::Short(by));
@@ -293,7 +294,7 @@ fn divisor_of(extent: &Extent, bits: u32, tier: Tier) -> Option<Divisor>
     if extent.denominator <= 0 {
         return None;
     }
-    if !fits(extent.denominator, tier) {
+    if !fits(extent.denominator, number_width) {
         return None;
     }
     Some(Divisor::Plain)

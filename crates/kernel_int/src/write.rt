@@ -8,7 +8,7 @@ ghost use Rattle.op_list.specs.declared.types.PixType.TheVariants.{U8, U16, U32}
 ghost use Rattle.kernel_int.specs.Block.{pixel_at, AreBelow, IsOutside};
 
 use crate::counts::total;
-use crate::put::{put_bytes, put_longs, put_words};
+use crate::scatter::{scatter_bytes, scatter_double_words, scatter_words};
 use crate::stride::{Stride, stride_of};
 use crate::whole_number::WholeNumber;
 use op_list::{PixType, PixelPosition};
@@ -38,7 +38,7 @@ fn write_value<W: WholeNumber>(
     match elem {
         PixType::U8 => write_bytes(values, v, n, stride, to),
         PixType::U16 => write_words(values, v, n, stride, to),
-        PixType::U32 => write_longs(values, v, n, stride, to),
+        PixType::U32 => write_double_words(values, v, n, stride, to),
         PixType::Rat => {}
     }
 }
@@ -57,10 +57,10 @@ fn write_bytes<W: WholeNumber>(values: &[W], v: usize, n: usize, stride: Stride,
         → element U8 to.new k ≡ element U8 to.old k }
 {
     match stride.step {
-        1 => put_bytes::<W, 1>(values, v, n, stride.start, to),
-        2 => put_bytes::<W, 2>(values, v, n, stride.start, to),
-        3 => put_bytes::<W, 3>(values, v, n, stride.start, to),
-        _ => put_bytes::<W, 4>(values, v, n, stride.start, to),
+        1 => scatter_bytes::<W, 1>(values, v, n, stride.start, to),
+        2 => scatter_bytes::<W, 2>(values, v, n, stride.start, to),
+        3 => scatter_bytes::<W, 3>(values, v, n, stride.start, to),
+        _ => scatter_bytes::<W, 4>(values, v, n, stride.start, to),
     }
 }
 
@@ -78,15 +78,21 @@ fn write_words<W: WholeNumber>(values: &[W], v: usize, n: usize, stride: Stride,
         → element U16 to.new k ≡ element U16 to.old k }
 {
     match stride.step {
-        1 => put_words::<W, 1>(values, v, n, stride.start, to),
-        2 => put_words::<W, 2>(values, v, n, stride.start, to),
-        3 => put_words::<W, 3>(values, v, n, stride.start, to),
-        _ => put_words::<W, 4>(values, v, n, stride.start, to),
+        1 => scatter_words::<W, 1>(values, v, n, stride.start, to),
+        2 => scatter_words::<W, 2>(values, v, n, stride.start, to),
+        3 => scatter_words::<W, 3>(values, v, n, stride.start, to),
+        _ => scatter_words::<W, 4>(values, v, n, stride.start, to),
     }
 }
 
 // The same, of 32 bits.
-fn write_longs<W: WholeNumber>(values: &[W], v: usize, n: usize, stride: Stride, to: &mut [u8])
+fn write_double_words<W: WholeNumber>(
+    values: &[W],
+    v: usize,
+    n: usize,
+    stride: Stride,
+    to: &mut [u8],
+)
     requires small { (i : ℕ) (d : W) → i < n
         → W.number (slice_index_or values.now (64 * v + i) d) < 2 ^ 32 }
     requires block { (v < 4) × (n ≤ 64) × (length values.now ≡ 256) }
@@ -99,10 +105,10 @@ fn write_longs<W: WholeNumber>(values: &[W], v: usize, n: usize, stride: Stride,
         → element U32 to.new k ≡ element U32 to.old k }
 {
     match stride.step {
-        1 => put_longs::<W, 1>(values, v, n, stride.start, to),
-        2 => put_longs::<W, 2>(values, v, n, stride.start, to),
-        3 => put_longs::<W, 3>(values, v, n, stride.start, to),
-        _ => put_longs::<W, 4>(values, v, n, stride.start, to),
+        1 => scatter_double_words::<W, 1>(values, v, n, stride.start, to),
+        2 => scatter_double_words::<W, 2>(values, v, n, stride.start, to),
+        3 => scatter_double_words::<W, 3>(values, v, n, stride.start, to),
+        _ => scatter_double_words::<W, 4>(values, v, n, stride.start, to),
     }
 }
 

@@ -26,8 +26,11 @@ pub struct Plan {
     pub ghost plain: { pair.to.desc.palette ≡ false },
     pub ghost fits: { Fits pair } by { Prim.hlevel props },
     pub ghost made: { list ≡ recipe pair } by { Coded-set list-code list (recipe pair) },
-    pub ghost runs: { list_or kernel (normal (recipe pair)) ≡ normal (recipe pair) } by { Coded-set list-code (list_or kernel (normal (recipe pair))) (normal (recipe pair)) },
-    pub ghost shown: { string_bytes text ≡ text_of (normal (recipe pair)) } by { Prim.hlevel props },
+    pub ghost runs: { list_or kernel (normal (recipe pair)) ≡ normal (recipe pair) }
+        by { Coded-set list-code (list_or kernel (normal (recipe pair)))
+        (normal (recipe pair)) },
+    pub ghost shown: { string_bytes text ≡ text_of (normal (recipe pair)) }
+        by { Prim.hlevel props },
 }
 
 impl Plan {

@@ -35,13 +35,14 @@ loop-k-preserved c =
     let again : c.index-ops-k-in-loop-k.result ≡ op_at ops k = c.index-ops-k-in-loop-k.is ∙ get_or_default ops k _ SwapBytes within in
     let before : c.index.result.now ≡ form_at c.loop-k.forms.items (k - 1) = c.index.ensures
     ∙ get_or_default c.loop-k.forms.items (k - 1) _ no_form (omega (arith, c.loop-k.invariant.count)) in
-    let step : IsStep (bits_of c.args.storage) (width_of c.args.tier) (stage_before ops k) (form_at c.loop-k.forms.items (k - 1))
+    let step : IsStep (bits_of c.args.storage) (width_of c.args.number_width) (stage_before ops k) (form_at c.loop-k.forms.items (k - 1))
     (op_at ops k) form =
     rw (← c.loop-k.invariant.stage, ← before, ← same) c.in-Some.ensures.step in
     record {
       count = ap length items ∙ length-append c.loop-k.forms.items (form ∷ []) ∙ ap (λ n. n + 1) c.loop-k.invariant.count;
       few = rw items (few_more c.loop-k.forms.items form c.loop-k.invariant.few c.in-Some.ensures.few);
-      steps = rw items (steps_more ops c.loop-k.forms.items form (bits_of c.args.storage) (width_of c.args.tier) k c.loop-k.invariant.count
+      steps = rw items (steps_more ops c.loop-k.forms.items form (bits_of c.args.storage)
+          (width_of c.args.number_width) k c.loop-k.invariant.count
           (omega arith) c.loop-k.invariant.steps step);
       stage = c.stage_after-stage-in-loop-k.ensures ∙ ap (λ s. stage_after s c.index-ops-k-in-loop-k.result) c.loop-k.invariant.stage
           ∙ ap (λ o. stage_after (stage_before ops k) o) again ∙ sym (stage_more ops k within);

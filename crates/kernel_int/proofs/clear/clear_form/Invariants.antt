@@ -9,6 +9,6 @@ invariant-loop-v l = record {
   count : l.after.count ≡ l.v;
   extents : length l.after.extents ≡ 4;
   factors : length l.after.factors ≡ 4;
-  values : (v : ℕ) → v < l.v → IsCleared (width_of l.tier) (is_rational l.stage) l.before v (entry l.entries v)
+  values : (v : ℕ) → v < l.v → IsCleared (width_of l.number_width) (is_rational l.stage) l.before v (entry l.entries v)
       (factor (factors_at l.after v) 0) (extent_at l.after v);
 }

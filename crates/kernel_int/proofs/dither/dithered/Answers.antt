@@ -3,7 +3,7 @@ use Rattle.std.specs.Prelude.{◌<ℤ◌}
 use Rattle.std.specs.Int.{w128}
 use Rattle.std.proofs.lemmas.Int.{ints}
 use Rattle.kernel_int.specs.Forms.{width_of}
-use Rattle.kernel_int.proofs.Intervals.{plain, tier_plain}
+use Rattle.kernel_int.proofs.Intervals.{plain, number_width_plain}
 use Rattle.kernel_int.proofs.MadeValues.{dithered_made}
 use Rattle.kernel_int.proofs.dither.dithered.Goals as goal
 
@@ -16,7 +16,7 @@ whole_quotient-requires c =
 
 pub returns : goal.returns
 returns c =
-    let tier = c.args.tier in
+    let number_width = c.args.number_width in
     let new = c.in_ok-scaled.scaled in
     let e = c.in_ok-scaled.ensures in
     let parts = c.parts_of-parts.result in
@@ -28,11 +28,11 @@ returns c =
     let p_is : to_z w128 (of_z w128 parts) ≡ parts = plain parts fits in
     let u_is : to_z w128 (of_z w128 unit) ≡ unit = plain unit c.in_ok-unit.ensures.fits in
     let m_is : to_z w128 (of_z w128 c.in_ok-most.most) ≡ c.in_ok-most.most = plain c.in_ok-most.most c.in_ok-most.ensures.fits in
-    let l_is : to_z w128 (of_z w128 new.least) ≡ new.least = tier_plain tier new.least e.least in
-    let g_is : to_z w128 (of_z w128 new.greatest) ≡ new.greatest = tier_plain tier new.greatest e.greatest in
-    let low : to_z w128 (of_z w128 c.in_ok-range.range.0) ≡ c.in_ok-range.range.0 = tier_plain tier c.in_ok-range.range.0
+    let l_is : to_z w128 (of_z w128 new.least) ≡ new.least = number_width_plain number_width new.least e.least in
+    let g_is : to_z w128 (of_z w128 new.greatest) ≡ new.greatest = number_width_plain number_width new.greatest e.greatest in
+    let low : to_z w128 (of_z w128 c.in_ok-range.range.0) ≡ c.in_ok-range.range.0 = number_width_plain number_width c.in_ok-range.range.0
     c.in_ok-range.ensures.low_fits in
-    let high : to_z w128 (of_z w128 c.in_ok-range.range.1) ≡ c.in_ok-range.range.1 = tier_plain tier c.in_ok-range.range.1
+    let high : to_z w128 (of_z w128 c.in_ok-range.range.1) ≡ c.in_ok-range.range.1 = number_width_plain number_width c.in_ok-range.range.1
     c.in_ok-range.ensures.high_fits in
     let ff : FitsSigned w128 factor = search rules in
     let f_is : to_z w128 (of_z w128 factor) ≡ factor = plain factor ff in
@@ -42,6 +42,6 @@ returns c =
     let most_is = rw (d_is, u_is) at c.in_ok-most.ensures.value in
     let added = rw (l_is, g_is, u_is, m_is) at c.in_ok-range.ensures in
     rw (c.with_unit-factors.ensures.factor, c.with_unit-factors.ensures.unit, f_is, u_is, d_is, low, high)
-    (dithered_made (width_of tier) c.args.old.now c.args.k factor unit c.in_ok-most.most new.denominator new.least new.greatest
+    (dithered_made (width_of number_width) c.args.old.now c.args.k factor unit c.in_ok-most.most new.denominator new.least new.greatest
     c.in_ok-range.range.0 c.in_ok-range.range.1
     e.positive scaled unit_is most_is added)

@@ -5,14 +5,14 @@ use Rattle.std.proofs.lemmas.List.{get_or_default}
 use Rattle.frac_math.specs.Fraction.{ℚ, nat}
 use Rattle.op_list.specs.Values.{fraction_in}
 use Rattle.kernel_int.specs.Forms.{width_of, factor, IsTerm, IsRange}
-use Rattle.kernel_int.proofs.Intervals.{plain, tier_plain}
+use Rattle.kernel_int.proofs.Intervals.{plain, number_width_plain}
 use Rattle.kernel_int.proofs.Factors.{row_made, five}
 use Rattle.kernel_int.proofs.row_form.formed_row.Goals as goal
 
 pub returns : goal.returns
 returns c =
     let row = c.args.row.now in
-    let tier = c.args.tier in
+    let number_width = c.args.number_width in
     let d = c.args.d in
     let d_is : to_z w128 (of_z w128 d) ≡ d = plain d c.ranges.d in
     let k0 = c.in_ok-factor_of.field-0 in
@@ -26,9 +26,9 @@ returns c =
     let e3 : to_z w128 (of_z w128 k3) ≡ k3 = plain k3 c.in_ok-factor_of-4.ensures.fits in
     let e4 : to_z w128 (of_z w128 k4) ≡ k4 = plain k4 c.in_ok-number_over.ensures.fits in
     let low : to_z w128 (of_z w128 c.in_ok-range.range.0) ≡ c.in_ok-range.range.0 =
-    tier_plain tier c.in_ok-range.range.0 c.in_ok-range.ensures.low in
+    number_width_plain number_width c.in_ok-range.range.0 c.in_ok-range.ensures.low in
     let high : to_z w128 (of_z w128 c.in_ok-range.range.1) ≡ c.in_ok-range.range.1 =
-    tier_plain tier c.in_ok-range.range.1 c.in_ok-range.ensures.high in
+    number_width_plain number_width c.in_ok-range.range.1 c.in_ok-range.ensures.high in
     let a0 : get_or row 0 c.index-row-0.result ≡ fraction_in row 0 = get_or_default row 0 _ (nat 0) (omega arith) in
     let a1 : get_or row 1 c.index-row-1.result ≡ fraction_in row 1 = get_or_default row 1 _ (nat 0) (omega arith) in
     let a2 : get_or row 2 c.index-row-2.result ≡ fraction_in row 2 = get_or_default row 2 _ (nat 0) (omega arith) in
@@ -57,9 +57,11 @@ returns c =
     let shown : List ℤ = to_z w128 (of_z w128 k0) ∷ to_z w128 (of_z w128 k1) ∷ to_z w128 (of_z w128 k2) ∷ to_z w128 (of_z w128 k3)
     ∷ to_z w128 (of_z w128 k4) ∷ [] in
     let same : shown ≡ k0 ∷ k1 ∷ k2 ∷ k3 ∷ k4 ∷ [] = five e0 e1 e2 e3 e4 in
-    let entries = subst (λ t. (j : ℕ) → j < 5 → FitsSigned (width_of tier) (factor t j)) same (c.all_fit.ensures c.if-not-all_fit.false) in
-    let range = subst (λ t. IsRange (width_of tier) c.args.before.now t c.in_ok-range.range.0 c.in_ok-range.range.1) same
+    let entries = subst (λ t. (j : ℕ) → j < 5 → FitsSigned (width_of number_width) (factor t j)) same
+    (c.all_fit.ensures c.if-not-all_fit.false) in
+    let range = subst (λ t. IsRange (width_of number_width) c.args.before.now t c.in_ok-range.range.0 c.in_ok-range.range.1) same
     c.in_ok-range.ensures.range in
     rw (e0, e1, e2, e3, e4, d_is, low, high)
-    (row_made (width_of tier) c.args.before.now row k0 k1 k2 k3 k4 d c.in_ok-range.range.0 c.in_ok-range.range.1 c.requires t0 t1 t2 t3 t4
+    (row_made (width_of number_width) c.args.before.now row k0 k1 k2 k3 k4 d c.in_ok-range.range.0 c.in_ok-range.range.1 c.requires t0
+    t1 t2 t3 t4
     entries range)

@@ -7,5 +7,5 @@ abbrev pub invariant-loop-v : goal.invariant-loop-v
 invariant-loop-v l = record {
   count : l.after.count ≡ l.v;
   divisors : length l.after.divisors ≡ 4;
-  narrowed : (v : ℕ) → v < l.v → IsNarrowed (width_of l.tier) (bits l.to) l.before l.after v;
+  narrowed : (v : ℕ) → v < l.v → IsNarrowed (width_of l.number_width) (bits l.to) l.before l.after v;
 }

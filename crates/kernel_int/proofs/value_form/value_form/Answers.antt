@@ -11,7 +11,7 @@ loop-v-preserved c =
       count = ap (λ n. n + 1) c.loop-v.invariant.count;
       extents = rw length-set c.loop-v.invariant.extents;
       factors = rw length-set c.loop-v.invariant.factors;
-      made = rows_more (λ v factors extent. (v < c.args.before.now.count) × IsMade (width_of c.args.tier) c.args.op.now v
+      made = rows_more (λ v factors extent. (v < c.args.before.now.count) × IsMade (width_of c.args.number_width) c.args.op.now v
           (extent_at c.args.before.now v) (factor factors 0) (factor factors 1) extent)
           c.loop-v.after.factors c.loop-v.after.extents c.loop-v.v made.factors made.extent (omega arith) (omega arith)
           c.loop-v.invariant.made (omega arith, c.in_ok-made.ensures);

@@ -8,6 +8,6 @@ invariant-loop-v l = record {
   count : l.after.count ≡ l.v;
   extents : length l.after.extents ≡ 4;
   factors : length l.after.factors ≡ 4;
-  made : (v : ℕ) → v < l.v → (v < l.before.count) × IsMade (width_of l.tier) l.op v (extent_at l.before v)
+  made : (v : ℕ) → v < l.v → (v < l.before.count) × IsMade (width_of l.number_width) l.op v (extent_at l.before v)
       (factor (factors_at l.after v) 0) (factor (factors_at l.after v) 1) (extent_at l.after v);
 }

@@ -2,7 +2,7 @@ use Rattle.std.proofs.Common.{arith, ◌*◌, ◌∙◌}
 use Rattle.op_list.specs.Pixel.{element}
 use Rattle.op_list.specs.declared.types.PixType.TheVariants.{U8}
 use Rattle.kernel_int.proofs.Written.{set_more, kept_more}
-use Rattle.kernel_int.proofs.put.put_bytes.Goals as goal
+use Rattle.kernel_int.proofs.scatter.scatter_bytes.Goals as goal
 
 pub loop-i-preserved : goal.loop-i-preserved
 loop-i-preserved g c = record {

@@ -3,12 +3,12 @@ ghost use Rattle.std.specs.Prelude.{◌≡◌, ◌≢◌, ℕ, ◌+◌, ◌*◌,
 ghost use Rattle.op_list.specs.Pixel.{element};
 ghost use Rattle.op_list.specs.declared.types.PixType.TheVariants.{U8, U16, U32};
 
-use crate::element::{set_byte, set_long, set_word};
+use crate::element::{set_byte, set_double_word, set_word};
 use crate::whole_number::WholeNumber;
 
 // Sets every C-th element of 8 bits, beginning at `start`, to value v of the first n pixels.
 #[inline(never)]
-pub fn put_bytes<W: WholeNumber, const C: usize>(
+pub fn scatter_bytes<W: WholeNumber, const C: usize>(
     values: &[W],
     v: usize,
     n: usize,
@@ -32,7 +32,7 @@ pub fn put_bytes<W: WholeNumber, const C: usize>(
 
 // Sets every C-th element of 16 bits, beginning at `start`, to value v of the first n pixels.
 #[inline(never)]
-pub fn put_words<W: WholeNumber, const C: usize>(
+pub fn scatter_words<W: WholeNumber, const C: usize>(
     values: &[W],
     v: usize,
     n: usize,
@@ -56,7 +56,7 @@ pub fn put_words<W: WholeNumber, const C: usize>(
 
 // Sets every C-th element of 32 bits, beginning at `start`, to value v of the first n pixels.
 #[inline(never)]
-pub fn put_longs<W: WholeNumber, const C: usize>(
+pub fn scatter_double_words<W: WholeNumber, const C: usize>(
     values: &[W],
     v: usize,
     n: usize,
@@ -74,6 +74,6 @@ pub fn put_longs<W: WholeNumber, const C: usize>(
         → element U32 to.new k ≡ element U32 to.old k }
 {
     for i in 0..n {
-        set_long(to, start + i * C, values[64 * v + i].wide());
+        set_double_word(to, start + i * C, values[64 * v + i].wide());
     }
 }

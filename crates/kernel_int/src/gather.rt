@@ -3,12 +3,12 @@ ghost use Rattle.std.specs.Prelude.{◌≡◌, ℕ, ◌+◌, ◌*◌, ◌^◌, �
 ghost use Rattle.op_list.specs.Pixel.{element};
 ghost use Rattle.op_list.specs.declared.types.PixType.TheVariants.{U8, U16, U32};
 
-use crate::element::{byte_at, long_at, word_at};
+use crate::element::{byte_at, double_word_at, word_at};
 use crate::whole_number::WholeNumber;
 
 // Fills value v of the first n pixels from every C-th element of 8 bits, beginning at `start`.
 #[inline(never)]
-pub fn pick_bytes<W: WholeNumber, const C: usize>(
+pub fn gather_bytes<W: WholeNumber, const C: usize>(
     from: &[u8],
     start: usize,
     n: usize,
@@ -32,7 +32,7 @@ pub fn pick_bytes<W: WholeNumber, const C: usize>(
 
 // Fills value v of the first n pixels from every C-th element of 16 bits, beginning at `start`.
 #[inline(never)]
-pub fn pick_words<W: WholeNumber, const C: usize>(
+pub fn gather_words<W: WholeNumber, const C: usize>(
     from: &[u8],
     start: usize,
     n: usize,
@@ -56,7 +56,7 @@ pub fn pick_words<W: WholeNumber, const C: usize>(
 
 // Fills value v of the first n pixels from every C-th element of 32 bits, beginning at `start`.
 #[inline(never)]
-pub fn pick_longs<W: WholeNumber, const C: usize>(
+pub fn gather_double_words<W: WholeNumber, const C: usize>(
     from: &[u8],
     start: usize,
     n: usize,
@@ -74,6 +74,6 @@ pub fn pick_longs<W: WholeNumber, const C: usize>(
         → slice_index_or values.new j d ≡ slice_index_or values.old j d }
 {
     for i in 0..n {
-        values[64 * v + i] = W::narrow(long_at(from, start + i * C));
+        values[64 * v + i] = W::narrow(double_word_at(from, start + i * C));
     }
 }
