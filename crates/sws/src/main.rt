@@ -1,4 +1,4 @@
-// The converter: words and standard input in, standard output out.
+//! The converter: words and standard input in, standard output out.
 #![tactic(auto)]
 
 use pix_io::{ReadSource, WriteSink};
