@@ -8,8 +8,11 @@ pub mod Factors
 pub mod FieldSteps
 pub mod Fours
 pub mod Intervals
+pub mod JointClears
 pub mod JointMade
+pub mod JointOps
 pub mod JointRows
+pub mod JointSteps
 pub mod JointValues
 pub mod JointWidths
 pub mod KeptSteps
