@@ -1,6 +1,7 @@
 pub mod Blocks
 pub mod ClearSteps
 pub mod Compiled
+pub mod CompiledWalks
 pub mod DitherSteps
 pub mod Division
 pub mod Extents
