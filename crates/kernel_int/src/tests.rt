@@ -117,7 +117,7 @@ fn agrees_as_list(alloc: Global, list: &OpList, copy: &OpList, width: u32, rows:
     requires rows { rows ≤ 4 }
 {
     let ops = list.ops();
-    if ops.is_empty() || copy.ops().is_empty() {
+    if ops.len() < 2 || copy.ops().is_empty() {
         return false;
     }
     let Some(read) = input_length(ops, width, rows) else {
