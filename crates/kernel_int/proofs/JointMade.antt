@@ -47,14 +47,14 @@ old_small old d size some has =
       below_product (extent_size old) has.factor size g has.most,
     )
 
-width_same : (extent : Extent) (d e m n : ℕ) → HasWidth extent d m → d ≡ e → m ≡ n → HasWidth extent e n
+pub width_same : (extent : Extent) (d e m n : ℕ) → HasWidth extent d m → d ≡ e → m ≡ n → HasWidth extent e n
 width_same extent d e m n has is same = subst (λ (x : ℕ). HasWidth extent x n) is (subst (λ (x : ℕ). HasWidth extent d x) same has)
 
 -- ---- the quotient of the joint denominators
 pub grown : (d e n : ℕ) → 0 < d → n ≡ d * e → n / d ≡ e
 grown d e n some is = ap (λ x. x / d) is ∙ mul-div_cancel_left e some
 
-size_of_value : (d : ℕ) (f : ℕ → ℕ) (next : Width) (v : ℕ) → v < 4 → AreSame next (width_of d f) → size_in next v ≡ f v
+pub size_of_value : (d : ℕ) (f : ℕ → ℕ) (next : Width) (v : ℕ) → v < 4 → AreSame next (width_of d f) → size_in next v ≡ f v
 size_of_value d f next v below same = same.sizes v below ∙ get_or-four f v 0 below
 
 -- ---- Scale

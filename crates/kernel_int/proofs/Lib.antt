@@ -1,6 +1,7 @@
 pub mod Blocks
 pub mod ClearSteps
 pub mod Compiled
+pub mod CompiledWalks
 pub mod DitherSteps
 pub mod Division
 pub mod Extents
@@ -8,8 +9,11 @@ pub mod Factors
 pub mod FieldSteps
 pub mod Fours
 pub mod Intervals
+pub mod JointClears
 pub mod JointMade
+pub mod JointOps
 pub mod JointRows
+pub mod JointSteps
 pub mod JointValues
 pub mod JointWidths
 pub mod KeptSteps

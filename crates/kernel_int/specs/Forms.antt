@@ -217,12 +217,36 @@ IsStep bits width stage before (Max limits) after = AreMade width before (Max li
 abbrev pub planes_of : Op → List ℕ
 planes_of (Read elem planes palette) = planes
 planes_of (Write elem planes) = planes
-planes_of op = []
+planes_of SwapBytes = []
+planes_of (Unpack widths) = []
+planes_of (Pack widths) = []
+planes_of (Clear entries) = []
+planes_of (LeftShift n) = []
+planes_of (RightShift n) = []
+planes_of (Swizzle from) = []
+planes_of (Convert to expand) = []
+planes_of (Dither count) = []
+planes_of (Linear rows) = []
+planes_of (Scale by) = []
+planes_of (Min limits) = []
+planes_of (Max limits) = []
 
 abbrev pub elem_of : Op → PixType
 elem_of (Read elem planes palette) = elem
 elem_of (Write elem planes) = elem
-elem_of op = U8
+elem_of SwapBytes = U8
+elem_of (Unpack widths) = U8
+elem_of (Pack widths) = U8
+elem_of (Clear entries) = U8
+elem_of (LeftShift n) = U8
+elem_of (RightShift n) = U8
+elem_of (Swizzle from) = U8
+elem_of (Convert to expand) = U8
+elem_of (Dither count) = U8
+elem_of (Linear rows) = U8
+elem_of (Scale by) = U8
+elem_of (Min limits) = U8
+elem_of (Max limits) = U8
 
 abbrev pub last_op : List Op → Op
 last_op ops = op_at ops (length ops - 1)

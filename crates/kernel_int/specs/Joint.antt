@@ -8,12 +8,12 @@ use Rattle.op_list.specs.declared.op.Op.{Op}
 use Rattle.op_list.specs.declared.op.Op.TheVariants.{Dither, Scale, Min, Max}
 use Rattle.op_list.specs.Values.{entry, fraction_in}
 use Rattle.op_list.specs.Types.{is_rational}
-use Rattle.op_list.specs.Typing.{are_typed}
+use Rattle.op_list.specs.Typing.{are_typed, may_follow, are_good, stage_after}
 use Rattle.op_range.specs.declared.width.Width.{Width}
-use Rattle.op_range.specs.Width.{size_in, own_width_from, size_over, limited_size}
+use Rattle.op_range.specs.Width.{size_in, own_width_from, size_over, limited_size, width_after}
 use Rattle.kernel_int.specs.declared.form.Extent.{Extent}
 use Rattle.kernel_int.specs.declared.form.Form.{Form}
-use Rattle.kernel_int.specs.Forms.{IsRow, extent_at, factor, stage_before}
+use Rattle.kernel_int.specs.Forms.{IsRow, IsStep, extent_at, factor, stage_before}
 use Rattle.kernel_int.specs.ValueSteps.{IsIn, IsMade, is_by_value}
 
 -- the numbers of a width are below 2^126
@@ -135,3 +135,19 @@ RowMade e d row before factors new =
 pub record IsJoint (stage : Stage) (form : Form) (width : Width) : Type 0 where
   pub count : form.count ≡ 4
   pub extents : is_rational stage ≡ true → (v : ℕ) → v < 4 → HasWidth (extent_at form v) width.denominator (size_in width v)
+
+-- ---- a step
+-- what an operation within the width of a list is given: a form within the width before it, and the width after it
+pub record IsGiven (stage : Stage) (op : Op) (before : Form) (width next : Width) : Type 0 where
+  pub follows : may_follow stage op ≡ true
+  pub good : are_good stage op ≡ true
+  pub joint : IsJoint stage before width
+  pub small : IsSmall width
+  pub same : AreSame next (width_after stage op width)
+  pub next_small : IsSmall next
+
+-- the numbers of a form are those of the operation, at 128 bits, and within the width after it
+pub record IsJointStep (bits : ℕ) (stage : Stage) (before : Form) (op : Op) (after : Form) (next : Width) : Type 0 where
+  pub few : after.count ≤ 4
+  pub step : IsStep bits w128 stage before op after
+  pub joint : IsJoint (stage_after stage op) after next

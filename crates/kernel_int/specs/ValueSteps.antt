@@ -6,7 +6,8 @@ use Rattle.frac_math.specs.Fraction.{ℚ, nat, ◌+ℚ◌, ◌*ℚ◌}
 use Rattle.frac_math.specs.Dither.{dither_at}
 use Rattle.frac_math.specs.Standing.{Stands}
 use Rattle.op_list.specs.declared.op.Op.{Op}
-use Rattle.op_list.specs.declared.op.Op.TheVariants.{Dither, Scale, Min, Max}
+use Rattle.op_list.specs.declared.op.Op.TheVariants.{Read, Write, SwapBytes, Unpack, Pack, Clear, LeftShift, RightShift, Swizzle}
+use Rattle.op_list.specs.declared.op.Op.TheVariants.{Convert, Dither, Linear, Scale, Min, Max}
 use Rattle.op_list.specs.declared.position.PixelPosition.{PixelPosition}
 use Rattle.op_list.specs.Apply.{at_most, at_least}
 use Rattle.op_list.specs.Values.{entry}
@@ -86,7 +87,17 @@ is_by_value (Scale by) = true
 is_by_value (Min limits) = true
 is_by_value (Max limits) = true
 is_by_value (Dither count) = true
-is_by_value op = false
+is_by_value (Read elem planes palette) = false
+is_by_value (Write elem planes) = false
+is_by_value SwapBytes = false
+is_by_value (Unpack widths) = false
+is_by_value (Pack widths) = false
+is_by_value (Clear entries) = false
+is_by_value (LeftShift n) = false
+is_by_value (RightShift n) = false
+is_by_value (Swizzle from) = false
+is_by_value (Convert to expand) = false
+is_by_value (Linear rows) = false
 
 -- what it makes of the fraction that value v is
 abbrev pub makes : Op → ℕ → PixelPosition → ℚ → ℚ
@@ -94,7 +105,17 @@ makes (Scale by) v position x = x *ℚ by
 makes (Min limits) v position x = at_most (entry limits v) x
 makes (Max limits) v position x = at_least (entry limits v) x
 makes (Dither count) v position x = x +ℚ dither_at count position.x position.y
-makes op v position x = x
+makes (Read elem planes palette) v position x = x
+makes (Write elem planes) v position x = x
+makes SwapBytes v position x = x
+makes (Unpack widths) v position x = x
+makes (Pack widths) v position x = x
+makes (Clear entries) v position x = x
+makes (LeftShift n) v position x = x
+makes (RightShift n) v position x = x
+makes (Swizzle from) v position x = x
+makes (Convert to expand) v position x = x
+makes (Linear rows) v position x = x
 
 -- the factors of value v, and its new extent, are those of the operation
 abbrev pub IsMade : Width → Op → ℕ → Extent → ℤ → ℤ → Extent → Type 0
@@ -102,7 +123,17 @@ IsMade width (Scale by) v old k unit new = IsScaled width old by k new
 IsMade width (Min limits) v old k unit new = IsAtMost width old (entry limits v) k new
 IsMade width (Max limits) v old k unit new = IsAtLeast width old (entry limits v) k new
 IsMade width (Dither count) v old k unit new = IsDithered width old count k unit new
-IsMade width op v old k unit new = ⊥
+IsMade width (Read elem planes palette) v old k unit new = ⊥
+IsMade width (Write elem planes) v old k unit new = ⊥
+IsMade width SwapBytes v old k unit new = ⊥
+IsMade width (Unpack widths) v old k unit new = ⊥
+IsMade width (Pack widths) v old k unit new = ⊥
+IsMade width (Clear entries) v old k unit new = ⊥
+IsMade width (LeftShift n) v old k unit new = ⊥
+IsMade width (RightShift n) v old k unit new = ⊥
+IsMade width (Swizzle from) v old k unit new = ⊥
+IsMade width (Convert to expand) v old k unit new = ⊥
+IsMade width (Linear rows) v old k unit new = ⊥
 
 -- Value v of the 64 pixels of a block: its numbers are in the new bounds, and stand for what is made of each fraction that the old ones
 -- stood for.

@@ -1,12 +1,12 @@
 // Forms within the width of a list, at 128 bits: four values, each over a denominator that divides
 // the joint one.
-ghost use Rattle.std.specs.Prelude.{◌≡◌, ◌≤◌, ◌^◌, ℕ, ◌<◌, true, All, slice_index};
+ghost use Rattle.std.specs.Prelude.{◌≡◌, ◌≤◌, ◌-◌, ◌^◌, ℕ, ◌<◌, true, All, slice_index};
 ghost use Rattle.std.specs.Int.{w128};
 ghost use Rattle.kernel_int.specs.ValueSteps.{IsDivided};
 ghost use Rattle.op_list.specs.Apply.{row_of};
-ghost use Rattle.kernel_int.specs.Forms.{AreKept, IsCleared, IsConstant, IsMoved, IsNarrowed};
+ghost use Rattle.kernel_int.specs.Forms.{AreKept, IsMoved, IsNarrowed};
 ghost use Rattle.kernel_int.specs.Forms.{IsWidened, extent_at, factor, factors_at};
-ghost use Rattle.kernel_int.specs.Joint.{MadeFits, MadeWithin, RowMade, RowWithin};
+ghost use Rattle.kernel_int.specs.Joint.{MadeFits, MadeWithin, RowMade, RowWithin, extent_size};
 
 use crate::form::{Divisor, Extent, Form, NO_DIVISOR};
 use crate::joint_made::joint_made;
@@ -122,6 +122,7 @@ pub fn joint_widened_form(bits: u32) -> Form
     requires { bits ≤ 32 }
     ensures count { result.count ≡ 4 }
     ensures widened { (v : ℕ) → v < 4 → IsWidened w128 (2 ^ bits) (extent_at result v) }
+    ensures size { (v : ℕ) → v < 4 → extent_size (extent_at result v) ≡ 2 ^ bits - 1 }
 {
     let extent = widened_extent(bits);
     Form {
@@ -134,39 +135,12 @@ pub fn joint_widened_form(bits: u32) -> Form
 
 fn widened_extent(bits: u32) -> Extent
     requires { bits ≤ 32 }
-    ensures { IsWidened w128 (2 ^ bits) result }
+    ensures widened { IsWidened w128 (2 ^ bits) result }
+    ensures size { extent_size result ≡ 2 ^ bits - 1 }
 {
     Extent {
         denominator: 1,
         least: 0,
         greatest: (1i128 << bits) - 1,
-    }
-}
-
-// What value v is cleared to: the entry alone, or what it was.
-fn joint_cleared(entry: &Option<Frac>, before: &Form, v: usize) -> Made
-    requires v { (v < 4) × (before.now.count ≡ 4) }
-    ensures { IsCleared w128 true before.now v entry.now (factor result.factors 0) result.extent }
-{
-    match entry {
-        None => Made {
-            factors: [0; 5],
-            extent: before.extents[v],
-        },
-        Some(x) => given(x),
-    }
-}
-
-fn given(x: &Frac) -> Made
-    ensures { IsConstant w128 x.now (factor result.factors 0) result.extent }
-{
-    let numerator = x.num();
-    Made {
-        factors: [numerator, 0, 0, 0, 0],
-        extent: Extent {
-            denominator: x.den(),
-            least: numerator,
-            greatest: numerator,
-        },
     }
 }

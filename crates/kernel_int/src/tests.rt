@@ -7,9 +7,12 @@ ghost use Rattle.op_list.specs.Pixel.{frame_length};
 ghost use Rattle.op_list.specs.Run.{read_length};
 ghost use Rattle.kernel_int.specs.Forms.{last_op};
 
+use crate::build::in_joint_numbers;
+use crate::storage_of::storage_of;
 use crate::{RowKernel, compile};
 use frac_math::{Frac, OutOfMemory};
 use op_list::{Op, OpList, PixType, PushFault, total};
+use op_range::fits;
 use std::alloc::Global;
 
 // The list of these operations.
@@ -114,7 +117,7 @@ fn agrees_as_list(alloc: Global, list: &OpList, copy: &OpList, width: u32, rows:
     requires rows { rows ≤ 4 }
 {
     let ops = list.ops();
-    if ops.is_empty() || copy.ops().is_empty() {
+    if ops.len() < 2 || copy.ops().is_empty() {
         return false;
     }
     let Some(read) = input_length(ops, width, rows) else {
@@ -135,14 +138,41 @@ fn agrees_as_list(alloc: Global, list: &OpList, copy: &OpList, width: u32, rows:
     if input.len() != read || output.len() != written || written != copied {
         return false;
     }
-    let Ok(Some(kernel)) = compile(alloc, list) else {
-        return false;
-    };
-    run_rows(&kernel, &input, &mut output, width, rows);
-    if output.len() != copied {
+    if !fits(list) {
         return false;
     }
-    is_meant(list, &input, copy, &output, width, rows)
+    let Ok(kernel) = compile(alloc, list) else {
+        return false;
+    };
+    let Ok(joint) = in_joint_numbers(alloc, ops, storage_of(ops)) else {
+        return false;
+    };
+    gives_meant(&kernel, list, &input, copy, &mut output, width, rows)
+        && gives_meant(&joint, list, &input, copy, &mut output, width, rows)
+}
+
+// Whether a kernel of a list makes of a frame what the list means.
+fn gives_meant(
+    kernel: &RowKernel,
+    list: &OpList,
+    input: &[u8],
+    copy: &OpList,
+    output: &mut [u8],
+    width: u32,
+    rows: u32,
+) -> bool
+    requires kernel { kernel.now ≡ list.now }
+    requires whole { ends_with_write list.now ≡ true }
+    requires input { length input.now ≡ read_length list.now width rows }
+    requires copy { ends_with_write copy.now ≡ true }
+    requires output { length output.old ≡ frame_length (last_op list.now) width rows }
+    requires copied { length output.old ≡ read_length copy.now width rows }
+    requires rows { rows ≤ 4 }
+    ensures { length output.new ≡ length output.old }
+{
+    output.fill(0x5a);
+    run_rows(kernel, input, output, width, rows);
+    is_meant(list, input, copy, output, width, rows)
 }
 
 // Runs a kernel on all rows of a frame, where the dither goes by the rows from 5 on.
@@ -150,6 +180,7 @@ fn run_rows(kernel: &RowKernel, input: &[u8], output: &mut [u8], width: u32, row
     requires input { length input.now ≡ read_length kernel.now width rows }
     requires output { length output.old ≡ frame_length (last_op kernel.now) width rows }
     requires rows { rows ≤ 4 }
+    ensures { length output.new ≡ length output.old }
 {
     for row in 0..rows {
         kernel.run_row(input, output, width, rows, row, 5 + row);

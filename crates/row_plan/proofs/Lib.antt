@@ -8,10 +8,6 @@ pub mod PeakTests
 pub mod PeakClasses
 pub mod PeakPairs
 pub mod RowSteps
-pub mod Written
-pub mod ConvertedPixels
-pub mod PixelRows
-pub mod PlannedPairs
 pub mod ConvertedRows
 pub mod SlicePlanes
 pub mod SliceBytes

@@ -3,4 +3,3 @@ pub mod PackedRgb
 pub mod Slices
 pub mod Rows
 pub mod Jobs
-pub mod Kernels

@@ -8,7 +8,6 @@
 mod job;
 pub mod laws;
 mod making;
-mod pixels;
 mod plans;
 mod rows;
 mod slice;

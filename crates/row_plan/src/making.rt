@@ -1,12 +1,12 @@
 // How a plan is made.
-ghost use Rattle.std.specs.Prelude.{◌≡◌, ◌↔◌, true, false, IfOk, IfErr, string_bytes};
+ghost use Rattle.std.specs.Prelude.{◌≡◌, ◌↔◌, ◌<◌, ◌^◌, true, IfOk, IfErr, string_bytes};
 ghost use Rattle.pix_meaning.specs.Pairs.{IsValidPair};
 ghost use Rattle.op_list.specs.Typing.{ends_with_write};
+ghost use Rattle.op_range.specs.Width.{width};
 ghost use Rattle.op_build.specs.Recipe.{recipe};
 ghost use Rattle.op_opt.specs.Normal.{normal};
 ghost use Rattle.op_text.specs.Line.{text_of};
 ghost use Rattle.row_plan.specs.Evaluated.{IsPlannable};
-ghost use Rattle.row_plan.specs.Kernels.{list_or};
 
 use crate::plans::Plan;
 use kernel_int::{RowKernel, compile};
@@ -17,15 +17,15 @@ use op_text::print;
 use pix_meaning::Pair;
 use std::alloc::Global;
 
-// The normal list of a pair's recipe.
-fn optimised(alloc: Global, pair: &Pair) -> Result<NormalList, BuildFault>
-    requires valid { IsValidPair pair.now }
-    requires plain { pair.now.to.desc.palette ≡ false }
-    ensures ok { IfOk result (λ list. list ≡ normal (recipe pair.now)) }
+// The normal list of a whole list.
+fn optimised(alloc: Global, list: OpList) -> Result<NormalList, BuildFault>
+    requires whole { ends_with_write list ≡ true }
+    ensures ok { IfOk result (λ after. after ≡ normal list) }
+    ensures whole { IfOk result (λ after. ends_with_write after ≡ true) }
     ensures fault { IfErr result (λ fault. fault ≡ BuildFault.OutOfMemory) }
 {
-    match optimise(alloc, build(alloc, pair)?) {
-        Ok(list) => Ok(list),
+    match optimise(alloc, list) {
+        Ok(after) => Ok(after),
         Err(_) => Err(BuildFault::OutOfMemory),
     }
 }
@@ -41,10 +41,11 @@ fn text_of(alloc: Global, list: &NormalList) -> Result<String, BuildFault>
     }
 }
 
-// The kernel of a list, where it has one.
-fn kernel_of(alloc: Global, list: &OpList) -> Result<Option<RowKernel>, BuildFault>
+// The kernel of a list.
+fn kernel_of(alloc: Global, list: &OpList) -> Result<RowKernel, BuildFault>
     requires whole { ends_with_write list.now ≡ true }
-    ensures ok { IfOk result (λ kernel. list_or kernel list.now ≡ list.now) }
+    requires fits { width list.now < 2 ^ 126 }
+    ensures ok { IfOk result (λ kernel. kernel ≡ list.now) }
     ensures fault { IfErr result (λ fault. fault ≡ BuildFault.OutOfMemory) }
 {
     match compile(alloc, list) {
@@ -65,14 +66,12 @@ pub fn plan(alloc: Global, pair: &Pair, stamp: u64) -> Result<Plan, BuildFault>
         (λ plan. string_bytes plan.text ≡ text_of (normal (recipe pair.now))) }
     ensures palette { (result ≡ Err BuildFault.PaletteTarget) ↔ (pair.now.to.desc.palette ≡ true) }
 {
-    let list = build(alloc, pair)?;
-    let optimised = optimised(alloc, pair)?;
-    let text = text_of(alloc, &optimised)?;
-    let kernel = kernel_of(alloc, optimised.list())?;
+    let list = optimised(alloc, build(alloc, pair)?)?;
+    let text = text_of(alloc, &list)?;
+    let kernel = kernel_of(alloc, list.list())?;
     Ok(Plan {
         pair: *pair,
         stamp,
-        list,
         kernel,
         text,
     })

@@ -6,11 +6,8 @@ ghost use Rattle.pix_meaning.specs.Pairs.{IsValidPair};
 ghost use Rattle.op_build.specs.Recipe.{recipe};
 ghost use Rattle.op_opt.specs.Normal.{normal};
 ghost use Rattle.op_text.specs.Line.{text_of};
-ghost use Rattle.row_plan.specs.Kernels.{list_or};
-ghost use Rattle.row_plan.specs.Evaluated.{Fits};
 
 use kernel_int::RowKernel;
-use op_list::OpList;
 use pix_meaning::Pair;
 
 /// What is made once for a pair of formats and converts rows of any size. Its target has no
@@ -19,16 +16,12 @@ use pix_meaning::Pair;
 pub struct Plan {
     pub(crate) pair: Pair,
     pub(crate) stamp: u64,
-    pub(crate) list: OpList,
-    pub(crate) kernel: Option<RowKernel>,
+    pub(crate) kernel: RowKernel,
     pub(crate) text: String,
     pub ghost valid: { IsValidPair pair } by { Prim.hlevel props },
     pub ghost plain: { pair.to.desc.palette ≡ false },
-    pub ghost fits: { Fits pair } by { Prim.hlevel props },
-    pub ghost made: { list ≡ recipe pair } by { Coded-set list-code list (recipe pair) },
-    pub ghost runs: { list_or kernel (normal (recipe pair)) ≡ normal (recipe pair) }
-        by { Coded-set list-code (list_or kernel (normal (recipe pair)))
-        (normal (recipe pair)) },
+    pub ghost runs: { kernel ≡ normal (recipe pair) }
+        by { Coded-set kernel-code kernel (normal (recipe pair)) },
     pub ghost shown: { string_bytes text ≡ text_of (normal (recipe pair)) }
         by { Prim.hlevel props },
 }

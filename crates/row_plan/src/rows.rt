@@ -2,44 +2,12 @@
 ghost use Rattle.std.specs.Prelude.{◌≡◌, ◌+◌, ◌<◌, ◌^◌, length};
 ghost use Rattle.pix_desc.specs.Frame.{frame_length};
 ghost use Rattle.pix_meaning.specs.Target.{target_rows};
-ghost use Rattle.op_build.specs.Recipe.{recipe};
-ghost use Rattle.op_opt.specs.Normal.{normal};
 ghost use Rattle.row_plan.specs.Rows.{AreConverted};
 
 use crate::plans::Plan;
 use crate::slice::Slice;
-use kernel_int::RowKernel;
 
 impl Plan {
-    // Converts a row by the kernel of the pair's normal list, where those before it are converted.
-    fn convert_by_kernel(
-        &self,
-        kernel: &RowKernel,
-        slice: &Slice,
-        row: u32,
-        input: &[u8],
-        output: &mut [u8],
-    )
-        requires kernel { kernel.now ≡ normal (recipe self.now.pair) }
-        requires row { row < slice.now.rows }
-        requires input { length input.now
-            ≡ frame_length self.now.pair.from.desc slice.now.width slice.now.rows }
-        requires output { length output.old
-            ≡ frame_length self.now.pair.to.desc slice.now.width slice.now.rows }
-        requires before { AreConverted self.now.pair slice.now input.now output.old row }
-        ensures size { length output.new ≡ length output.old }
-        ensures after { AreConverted self.now.pair slice.now input.now output.new (row + 1) }
-    {
-        kernel.run_row(
-            input,
-            output,
-            slice.width,
-            slice.rows,
-            row,
-            slice.first + row,
-        );
-    }
-
     // Converts a row, where those before it are converted.
     fn convert_row(&self, slice: &Slice, row: u32, input: &[u8], output: &mut [u8])
         requires row { row < slice.now.rows }
@@ -51,10 +19,14 @@ impl Plan {
         ensures size { length output.new ≡ length output.old }
         ensures after { AreConverted self.now.pair slice.now input.now output.new (row + 1) }
     {
-        match &self.kernel {
-            Some(kernel) => self.convert_by_kernel(kernel, slice, row, input, output),
-            None => self.convert_by_pixels(slice, row, input, output),
-        }
+        self.kernel.run_row(
+            input,
+            output,
+            slice.width,
+            slice.rows,
+            row,
+            slice.first + row,
+        );
     }
 
     // Converts the rows of a slice.

@@ -7,7 +7,7 @@ use Rattle.op_list.specs.Typing.{stage_after}
 use Rattle.kernel_int.specs.Forms.{IsStep, form_at, no_form, op_at, stage_before, bits_of, width_of}
 use Rattle.kernel_int.proofs.Kernels.{first_stage, stage_more}
 use Rattle.kernel_int.proofs.Compiled.{few_more, steps_more, few_none}
-use Rattle.kernel_int.proofs.build.forms_of.Goals as goal
+use Rattle.kernel_int.proofs.own_forms.forms_of.Goals as goal
 
 pub loop-k-init : goal.loop-k-init
 loop-k-init c =

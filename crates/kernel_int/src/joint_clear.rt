@@ -1,0 +1,71 @@
+// The form after a Clear, at 128 bits.
+ghost use Rattle.std.specs.Prelude.{◌≡◌, ℕ, ◌<◌, true};
+ghost use Rattle.std.specs.Int.{w128};
+ghost use Rattle.op_list.specs.Values.{entry};
+ghost use Rattle.kernel_int.specs.Forms.{IsCleared, IsConstant, extent_at, factor, factors_at};
+
+use crate::form::{Extent, Form, NO_DIVISOR};
+use crate::made::Made;
+use frac_math::Frac;
+
+/// Four values, of which those with an entry are that entry alone.
+pub fn joint_clear_form(entries: &[Option<Frac>; 4], before: &Form) -> Form
+    requires { before.now.count ≡ 4 }
+    ensures count { result.count ≡ 4 }
+    ensures cleared { (v : ℕ) → v < 4 → IsCleared w128 true before.now v (entry entries.now v)
+        (factor (factors_at result v) 0) (extent_at result v) }
+{
+    let first = joint_cleared(&entries[0], before, 0);
+    let second = joint_cleared(&entries[1], before, 1);
+    let third = joint_cleared(&entries[2], before, 2);
+    let fourth = joint_cleared(&entries[3], before, 3);
+    form_of(first, second, third, fourth)
+}
+
+// The form of four values.
+fn form_of(first: Made, second: Made, third: Made, fourth: Made) -> Form
+    ensures count { result.count ≡ 4 }
+    ensures first { (factors_at result 0 ≡ first.factors) × (extent_at result 0 ≡ first.extent) }
+    ensures second { (factors_at result 1 ≡ second.factors) × (extent_at result 1 ≡ second.extent) }
+    ensures third { (factors_at result 2 ≡ third.factors) × (extent_at result 2 ≡ third.extent) }
+    ensures fourth { (factors_at result 3 ≡ fourth.factors) × (extent_at result 3 ≡ fourth.extent) }
+{
+    let (first_row, first_extent) = (first.factors, first.extent);
+    let (second_row, second_extent) = (second.factors, second.extent);
+    let (third_row, third_extent) = (third.factors, third.extent);
+    let (fourth_row, fourth_extent) = (fourth.factors, fourth.extent);
+    Form {
+        count: 4,
+        extents: [first_extent, second_extent, third_extent, fourth_extent],
+        factors: [first_row, second_row, third_row, fourth_row],
+        divisors: [NO_DIVISOR; 4],
+    }
+}
+
+// What value v is cleared to: the entry alone, or what it was.
+fn joint_cleared(entry: &Option<Frac>, before: &Form, v: usize) -> Made
+    requires { (v < 4) × (before.now.count ≡ 4) }
+    ensures { IsCleared w128 true before.now v entry.now (factor result.factors 0) result.extent }
+{
+    match entry {
+        None => Made {
+            factors: [0; 5],
+            extent: before.extents[v],
+        },
+        Some(x) => given(x),
+    }
+}
+
+fn given(x: &Frac) -> Made
+    ensures { IsConstant w128 x.now (factor result.factors 0) result.extent }
+{
+    let numerator = x.num();
+    Made {
+        factors: [numerator, 0, 0, 0, 0],
+        extent: Extent {
+            denominator: x.den(),
+            least: numerator,
+            greatest: numerator,
+        },
+    }
+}
