@@ -2,12 +2,14 @@
 """How much faster four workers convert than one, and how much memory a large frame takes.
 
     bench/workers.py PROGRAM [--frames N] [--size WxH] [--runs K]
+    bench/workers.py PROGRAM --board [--runs K]
     bench/workers.py PROGRAM --memory
 
 The first form converts the same rgb24 frames to yuv444p with one worker and with four, in turn, and prints the
-frames a second of each and their ratio; of K runs the fastest of each counts. The second prints the peak memory of
-one 8192x4096 frame of rgb24 to bgr24 with 64 workers, in slices of one row and of 16384. The processors have to be
-free.
+frames a second of each and their ratio; of K runs the fastest of each counts. The second shows what a board costs a
+frame: the frames a second of rgb24 to bgr24, small and large, as one slice (which costs no thread) and in eight
+slices, each with one worker (which costs none either) and with four. The third prints the peak memory of one
+8192x4096 frame of rgb24 to bgr24 with 64 workers, in slices of one row and of 16384. The processors have to be free.
 """
 import argparse
 import os
@@ -50,6 +52,19 @@ def speed(program, source, width, height, frames, runs):
     print("ratio %.2f on %d processors" % (best[1] / best[4], os.cpu_count()))
 
 
+def board(program, source, runs):
+    print("%-11s%8s%14s%14s" % ("frames of", "slices", "1 worker", "4 workers"))
+    for width, height, frames in ((64, 64, 10000), (1920, 1080, 30)):
+        write_frames(source, width, height, frames)
+        for slices in (1, 8):
+            row = "%-11s%8d" % ("%dx%d" % (width, height), slices)
+            for workers in (1, 4):
+                seconds = min(
+                    convert(program, source, "bgr24", width, height, workers, height // slices) for _ in range(runs))
+                row += "%14.1f" % (frames / seconds)
+            print(row, flush=True)
+
+
 def memory(program, source):
     width, height = 8192, 4096
     write_frames(source, width, height, 1)
@@ -73,6 +88,7 @@ def main():
     parser.add_argument("--frames", type=int, default=2)
     parser.add_argument("--size", default="640x480")
     parser.add_argument("--runs", type=int, default=3)
+    parser.add_argument("--board", action="store_true")
     parser.add_argument("--memory", action="store_true")
     asked = parser.parse_args()
     width, height = (int(n) for n in asked.size.split("x"))
@@ -80,6 +96,8 @@ def main():
         source = os.path.join(folder, "frames.rgb")
         if asked.memory:
             memory(asked.program, source)
+        elif asked.board:
+            board(asked.program, source, asked.runs)
         else:
             speed(asked.program, source, width, height, asked.frames, asked.runs)
 

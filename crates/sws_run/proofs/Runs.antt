@@ -10,6 +10,7 @@ use Rattle.pix_io.specs.Streams.{Writes, WritesPart}
 use Rattle.pix_io.proofs.Calls.{Writes-trans, Writes-nil}
 use Rattle.frame_slices.specs.declared.frame_slice.Place.{Place}
 use Rattle.frame_slices.specs.declared.sliced_frame.SlicedFrame.{SlicedFrame}
+use Rattle.pix_meaning.specs.declared.pair.Pair.{Pair}
 use Rattle.pix_meaning.specs.Target.{target_frame}
 use Rattle.y4m_io.specs.declared.fault.StreamFault.{StreamFault}
 use Rattle.sws_run.specs.declared.run.Converter.{Converter}
@@ -165,13 +166,13 @@ stops_for_memory converter size k a b sink sink' at wrote =
 pub held_by : (converter : Converter) (frame : SlicedFrame) → IsFrameFor converter frame.whole → source_size frame ≡ size_by converter
 held_by converter frame is = rw (is.source, is.width, is.height) refl
 
-pub converted_by : (converter : Converter) (whole : Place) (frame target : List ℕ) → IsFrameFor converter whole
-    → target ≡ target_frame converter.plan.pair whole.width whole.rows frame
-    → target ≡ target_frame converter.plan.pair converter.width converter.height frame
-converted_by converter whole frame target is same = rw (is.width, is.height) same
+pub converted_by : (converter : Converter) (pair : Pair) (whole : Place) (frame target : List ℕ) → pair ≡ converter.pair
+    → IsFrameFor converter whole → target ≡ target_frame pair whole.width whole.rows frame
+    → target ≡ target_frame converter.pair converter.width converter.height frame
+converted_by converter pair whole frame target of_pair is same = rw (sym of_pair, is.width, is.height) same
 
 pub text_is : (converter : Converter) (frame target : List ℕ) → target
-    ≡ target_frame converter.plan.pair converter.width converter.height frame
+    ≡ target_frame converter.pair converter.width converter.height frame
     → front_in converter.target_form ++ target ≡ text_by converter frame
 unfolding text_by
 text_is converter frame target is = ap (λ t. front_in converter.target_form ++ t) is

@@ -108,7 +108,7 @@ pub record IsSoundOpening (header : Header) : Type 0 where
 
 -- what is made for a stream of a conversion, once its header is known
 pub record IsConverterOf (conversion : Conversion) (header : Header) (converter : Converter) : Type 0 where
-  pub pair : converter.plan.pair ≡ pair_of conversion header
+  pub pair : converter.pair ≡ pair_of conversion header
   pub width : converter.width ≡ header.width
   pub height : converter.height ≡ header.height
   pub source_form : converter.source_form ≡ form_of conversion.input
@@ -117,20 +117,20 @@ pub record IsConverterOf (conversion : Conversion) (header : Header) (converter 
 
 -- a frame of this size and these formats is one that it converts
 pub record IsFrameFor (converter : Converter) (whole : Place) : Type 0 where
-  pub source : converter.plan.pair.from.desc ≡ whole.source
-  pub target : converter.plan.pair.to.desc ≡ whole.target
+  pub source : converter.pair.from.desc ≡ whole.source
+  pub target : converter.pair.to.desc ≡ whole.target
   pub width : converter.width ≡ whole.width
   pub height : converter.height ≡ whole.rows
 
 -- how many bytes a source frame has
 abbrev pub size_by : Converter → ℕ
-size_by converter = frame_length converter.plan.pair.from.desc converter.width converter.height
+size_by converter = frame_length converter.pair.from.desc converter.width converter.height
 
 -- ---- all frames
 
 -- what is put out for a frame
 unfoldable pub text_by : Converter → List ℕ → List ℕ
-text_by converter frame = front_in converter.target_form ++ target_frame converter.plan.pair converter.width converter.height frame
+text_by converter frame = front_in converter.target_form ++ target_frame converter.pair converter.width converter.height frame
 
 abbrev pub frames_by : Converter → ℕ → List ℕ → Frames
 frames_by converter size bytes = frames_cut converter.source_form size most_frames bytes

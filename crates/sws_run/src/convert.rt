@@ -1,5 +1,6 @@
 // A conversion of a stream, from its header on.
-ghost use Rattle.std.specs.Prelude.{◌≡◌, Ok, IfOk};
+ghost use Rattle.std.specs.Prelude.{◌≡◌, Ok, IfOk, length};
+ghost use Rattle.list_cache.specs.Cells.{cell_numbers};
 ghost use Rattle.sws_run.specs.Frames.{IsConverterOf, IsFrameFor, IsSoundOpening, ended_by};
 ghost use Rattle.sws_run.specs.Output.{header_of, header_in};
 ghost use Rattle.sws_run.specs.Request.{form_of, IsSoundConversion};
@@ -8,26 +9,28 @@ ghost use Rattle.sws_run.specs.Run.{IsComplete};
 
 use crate::Ended;
 use crate::opening::{input_header, output_header};
-use crate::planning::plan_of;
+use crate::planning::look_up;
 use crate::request::{Conversion, Input, Request};
 use crate::run::{Converter, convert_frames};
 use crate::sides::pair_of;
 use desc_table::desc;
 use frac_math::OutOfMemory;
 use frame_slices::{Gate, SlicedFrame};
+use list_cache::ListCache;
 use pix_io::{Sink, Source, write_all};
 use std::alloc::Global;
 use std::thread::Threads;
 use sws_words::Form;
 use y4m_io::{Header, HeaderEnd};
 
-// What is made once for a stream: its converter, the text before its frames, and the slices of a
-// frame, which serve one frame after the other.
+// What is made once for a stream: its converter, the text before its frames, the slices of a
+// frame, which serve one frame after the other, and a cell for the plan.
 #[derive(Drop)]
 struct Stream {
     converter: Converter,
     text: Vec<u8>,
     frame: SlicedFrame,
+    cache: ListCache,
 }
 
 // The form of a source.
@@ -49,9 +52,10 @@ fn prepare(alloc: Global, conversion: &Conversion, header: Header) -> Result<Str
     ensures text { IfOk result (λ stream. stream.text.items ≡ header_in conversion.now.target_form
         (header_of conversion.now header)) }
     ensures frame { IfOk result (λ stream. IsFrameFor stream.converter stream.frame.whole) }
+    ensures cache { IfOk result (λ stream. length (cell_numbers stream.cache) ≡ 1) }
 {
     let converter = Converter {
-        plan: plan_of(alloc, &pair_of(conversion, &header))?,
+        pair: pair_of(conversion, &header),
         width: header.width,
         height: header.height,
         source_form: form_of(&conversion.input),
@@ -70,6 +74,7 @@ fn prepare(alloc: Global, conversion: &Conversion, header: Header) -> Result<Str
         converter,
         text: output_header(alloc, conversion, header)?,
         frame,
+        cache: ListCache::new(alloc, 1)?,
     })
 }
 
@@ -118,10 +123,24 @@ pub fn convert<R: Threads + Sync, In: Source, Out: Sink, G: Gate>(
         converter,
         text,
         frame,
+        cache,
     } = stream;
+    let mut note = cache.note(0);
+    let Ok(seen) = look_up(alloc, &cache, &mut note, &converter.pair) else {
+        return Ended::OutOfMemory { frames: 0 };
+    };
     match write_all(output, &text) {
         Ok(()) => {}
         Err(_) => return Ended::WriteFault { frames: 0 },
     }
-    convert_frames(rt, alloc, &converter, input, output, frame, gate)
+    convert_frames(
+        rt,
+        alloc,
+        &converter,
+        seen.plan(),
+        input,
+        output,
+        frame,
+        gate,
+    )
 }

@@ -5,11 +5,12 @@ ghost use Rattle.sws_run.specs.Frames.{source_held, source_size};
 ghost use Rattle.sws_run.specs.Report.{IsFrameMade, made_targets, sum_lines};
 ghost use Rattle.sws_run.specs.Request.{IsSoundMaking};
 
-use crate::planning::plan_of;
+use crate::planning::look_up;
 use crate::request::Making;
 use frac_math::OutOfMemory;
 use frame_slices::{Gate, Generator, SlicedFrame};
 use itoa::Buffer;
+use list_cache::ListCache;
 use pix_io::{Got, frame_len};
 use row_plan::Plan;
 use std::alloc::Global;
@@ -95,7 +96,9 @@ pub fn sum_text<R: Threads + Sync, G: Gate>(
     ensures { IfOk result (λ text. string_bytes text
         ≡ sum_lines (length (made_targets making.now 4)) (sum (made_targets making.now 4))) }
 {
-    let plan = plan_of(alloc, &making.pair)?;
+    let cache = ListCache::new(alloc, 1)?;
+    let mut note = cache.note(0);
+    let seen = look_up(alloc, &cache, &mut note, &making.pair)?;
     let frame = SlicedFrame::new(
         alloc,
         &making.pair.from.desc,
@@ -104,7 +107,7 @@ pub fn sum_text<R: Threads + Sync, G: Gate>(
         SIDE,
         making.slice,
     )?;
-    let total = sum_targets(rt, alloc, making, &plan, frame, gate)?;
+    let total = sum_targets(rt, alloc, making, seen.plan(), frame, gate)?;
     let count = frame_len(&making.pair.to.desc, SIDE, SIDE);
     sum_lines(alloc, u64::from(FRAMES) * count, total)
 }

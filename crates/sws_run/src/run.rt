@@ -1,5 +1,5 @@
 // The run over the frames of an input: frame after frame.
-ghost use Rattle.std.specs.Prelude.{◌<◌};
+ghost use Rattle.std.specs.Prelude.{◌≡◌, ◌<◌};
 ghost use Rattle.sws_run.specs.Run.{IsComplete};
 ghost use Rattle.sws_run.specs.Frames.{EndsFrames, StopsReading, StopsWriting, StopsForMemory};
 ghost use Rattle.sws_run.specs.Frames.{IsFrameFor, size_by};
@@ -8,6 +8,7 @@ use crate::Ended;
 use crate::frame::{Next, is_at_end, read_frame, write_frame};
 use frame_slices::{Gate, SlicedFrame};
 use pix_io::{Sink, Source};
+use pix_meaning::Pair;
 use row_plan::Plan;
 use std::alloc::Global;
 use std::thread::Threads;
@@ -17,10 +18,10 @@ use y4m_io::LineEnd;
 // An input has at most so many frames.
 const MAX_FRAMES: u32 = 1_000_000;
 
-/// What is made once for a stream.
+/// What a conversion of frames is.
 #[derive(Drop)]
 pub struct Converter {
-    pub plan: Plan,
+    pub pair: Pair,
     /// In pixels, 1 to 16,384.
     pub width: u32,
     /// In pixels, 1 to 16,384.
@@ -31,17 +32,20 @@ pub struct Converter {
     pub workers: u32,
 }
 
-/// Converts the frames of the input one after the other, in the slices of one frame.
+/// Converts the frames of the input one after the other, in the slices of one frame. All workers
+/// borrow the plan, which is that of the converter's pair.
 pub fn convert_frames<R: Threads + Sync, In: Source, Out: Sink, G: Gate>(
     rt: &R,
     alloc: Global,
     converter: &Converter,
+    plan: &Plan,
     input: &mut In,
     output: &mut Out,
     frame: SlicedFrame,
     gate: &G,
 ) -> Ended
     requires some { 0 < size_by converter.now }
+    requires plan { plan.now.pair ≡ converter.now.pair }
     requires frame { IsFrameFor converter.now frame.whole }
     requires workers { 0 < converter.now.workers }
     ensures answer { EndsFrames converter.now (size_by converter.now) (In.shown input.old)
@@ -69,7 +73,7 @@ pub fn convert_frames<R: Threads + Sync, In: Source, Out: Sink, G: Gate>(
             },
             Err(LineEnd::ReadFault) => return Ended::ReadFault { frames: done },
         }
-        frame = match frame.convert(rt, alloc, &converter.plan, converter.workers, gate) {
+        frame = match frame.convert(rt, alloc, plan, converter.workers, gate) {
             Ok(converted) => converted,
             Err(_) => return Ended::OutOfMemory { frames: done },
         };

@@ -1,11 +1,12 @@
 ghost use Rattle.std.specs.Prelude.{◌<◌, ◌≤◌};
 
+mod boards;
 mod endings;
 mod pairs;
 mod places;
 mod rows;
 
-use crate::{Ended, OpenGate, run_sws};
+use crate::{Ended, Gate, OpenGate, run_sws};
 use pairs::{formats, pixels};
 use pix_io::{MemSink, MemSource};
 use std::alloc::{AllocError, Global};
@@ -55,6 +56,18 @@ fn run<R: Threads + Sync>(
     input: &[u8],
     faults: &Faults,
 ) -> Result<Outcome, AllocError> {
+    run_through(rt, alloc, line, input, faults, &OpenGate)
+}
+
+// A run over memory whose workers pass a gate.
+fn run_through<R: Threads + Sync, G: Gate>(
+    rt: &R,
+    alloc: Global,
+    line: &str,
+    input: &[u8],
+    faults: &Faults,
+    gate: &G,
+) -> Result<Outcome, AllocError> {
     let mut words = Vec::new(alloc);
     for word in line.split(' ') {
         words.push(String::from_str(alloc, word)?)?;
@@ -74,7 +87,7 @@ fn run<R: Threads + Sync>(
         &mut source,
         &mut sink,
         &mut notes,
-        &OpenGate,
+        gate,
     );
     Ok(Outcome {
         ended,

@@ -1,10 +1,12 @@
-use Rattle.std.proofs.Common.{◌≡◌, Ok, inl, refl, sym, ◌∙◌, subst, arith}
+use Rattle.std.proofs.Common.{◌≡◌, Ok, inl, refl, sym, ap, ◌∙◌, subst, arith}
 use Rattle.pix_io.specs.Faults.{HasNoFault}
 use Rattle.pix_io.specs.Streams.{Writes, WritesPart}
 use Rattle.pix_io.proofs.Calls.{Writes-nil}
 use Rattle.sws_run.specs.Cut.{source_length}
 use Rattle.sws_run.specs.Frames.{size_by}
-use Rattle.sws_run.proofs.Opened.{opening_some, source_length_is}
+use Rattle.row_plan.specs.declared.plans.Plan.{Plan}
+use Rattle.sws_run.specs.Request.{IsTablePair}
+use Rattle.sws_run.proofs.Opened.{opening_some, pair_is_of_table, source_length_is}
 use Rattle.sws_run.specs.declared.request.Request.TheVariants as request
 use Rattle.sws_run.specs.Run.{GivesAnswer, GivesReadFault, GivesWriteFault, GivesOutOfMemory, IsComplete}
 use Rattle.sws_run.proofs.Lifts.{answer_lift, read_lift, write_lift, complete_lift, memory_lift, header_write_fault, meets_told}
@@ -165,3 +167,20 @@ returns-clause-memory g c =
     let wrote = subst (Writes k0 k1) (c.deref.ensures.value ∙ c.in-Ok-prepare.ensures.text) c.in-Ok-write_all.ensures.written in
     memory_lift conversion header stream.converter n s0 s1 (g.In.Source.shown c.convert_frames.new.input) k0 k1
     (g.Out.Sink.shown c.convert_frames.new.output) c.convert_frames.result told wrote c.convert_frames.ensures.memory
+
+pub note-note-requires : goal.note-note-requires
+note-note-requires g c = omega (arith, c.in-Ok-prepare.ensures.cache)
+
+pub look_up-requires-clause-pair : goal.look_up-requires-clause-pair
+look_up-requires-clause-pair g c =
+    subst IsTablePair (sym c.in-Ok-prepare.ensures.converter.pair)
+    (pair_is_of_table c.args.conversion.now c.in-Ok.header c.requires c.in-Ok.ensures.sound)
+
+pub look_up-requires-clause-note : goal.look_up-requires-clause-note
+look_up-requires-clause-note g c = c.note-note.ensures.cell
+
+pub returns-in_default-look_up-clause-memory : goal.returns-in_default-look_up-clause-memory
+returns-in_default-look_up-clause-memory g c = record { output = inl (refl, Writes-nil (g.Out.Sink.shown c.args.output.now)) }
+
+pub convert_frames-requires-clause-plan : goal.convert_frames-requires-clause-plan
+convert_frames-requires-clause-plan g c = λ κs within. ap (λ (plan : Plan). plan.pair) c.plan.ensures ∙ c.in-Ok-look_up.ensures

@@ -1,5 +1,6 @@
-use Rattle.std.proofs.Common.{◌≡◌, rules, arith, subst, inr, IfSome, sym}
+use Rattle.std.proofs.Common.{◌≡◌, ◌∙◌, ap, rules, arith, subst, inr, IfSome, sym}
 use Rattle.pix_io.proofs.Calls.{Rose-after}
+use Rattle.pix_meaning.specs.declared.pair.Pair.{Pair}
 use Rattle.sws_run.specs.declared.ended.Ended.TheVariants.{Stream}
 use Rattle.sws_run.specs.Cut.{Clean, TooMany, Broken, Faulty, piece_cut, most_frames}
 use Rattle.sws_run.specs.Frames.{EndsFrames, IfTold, IsFrameFor, TakesFrame, TakesPiece, size_by, source_held, target_held, text_by}
@@ -85,7 +86,8 @@ returns-in-Err-write_frame-clause-write_fault g c =
     let frame = source_held c.read_frame.new.frame in
     let target = target_held c.in-Ok.converted in
     let fits = subst (IsFrameFor converter) (sym c.read_frame.ensures.whole) c.loop-done.invariant.fits in
-    let is = converted_by converter c.read_frame.new.frame.whole frame target fits c.in-Ok.ensures.target in
+    let is = converted_by converter c.args.plan.now.pair c.read_frame.new.frame.whole frame target c.requires.plan fits
+    c.in-Ok.ensures.target in
     let next = subst (λ n. IfTold (g.In.Source.shown c.loop-done.input).bytes (g.In.Source.shown c.read_frame.new.input).bytes
     (TakesFrame converter.source_form n frame))
     (held_by converter c.loop-done.frame c.loop-done.invariant.fits) (rw c.in-Ok-Frame.field-0-is at c.in-Ok-Frame.ensures.next) in
@@ -110,7 +112,8 @@ loop-done-preserved g c =
     let frame = source_held c.read_frame.new.frame in
     let target = target_held c.in-Ok.converted in
     let fits = subst (IsFrameFor converter) (sym c.read_frame.ensures.whole) c.loop-done.invariant.fits in
-    let is = converted_by converter c.read_frame.new.frame.whole frame target fits c.in-Ok.ensures.target in
+    let is = converted_by converter c.args.plan.now.pair c.read_frame.new.frame.whole frame target c.requires.plan fits
+    c.in-Ok.ensures.target in
     let next = subst (λ n. IfTold (g.In.Source.shown c.loop-done.input).bytes (g.In.Source.shown c.read_frame.new.input).bytes
     (TakesFrame converter.source_form n frame))
     (held_by converter c.loop-done.frame c.loop-done.invariant.fits) (rw c.in-Ok-Frame.field-0-is at c.in-Ok-Frame.ensures.next) in
@@ -176,11 +179,13 @@ returns-clause-read_fault g c =
 
 pub convert-requires-clause-source : goal.convert-requires-clause-source
 convert-requires-clause-source g c = λ κs bound.
-    (subst (IsFrameFor c.args.converter.now) (sym c.read_frame.ensures.whole) c.loop-done.invariant.fits).source
+    ap (λ (pair : Pair). pair.from.desc) c.requires.plan
+    ∙ (subst (IsFrameFor c.args.converter.now) (sym c.read_frame.ensures.whole) c.loop-done.invariant.fits).source
 
 pub convert-requires-clause-target : goal.convert-requires-clause-target
 convert-requires-clause-target g c = λ κs bound.
-    (subst (IsFrameFor c.args.converter.now) (sym c.read_frame.ensures.whole) c.loop-done.invariant.fits).target
+    ap (λ (pair : Pair). pair.to.desc) c.requires.plan
+    ∙ (subst (IsFrameFor c.args.converter.now) (sym c.read_frame.ensures.whole) c.loop-done.invariant.fits).target
 
 pub read_frame-requires : goal.read_frame-requires
 read_frame-requires g c = omega (arith, held_by c.args.converter.now c.loop-done.frame c.loop-done.invariant.fits, c.requires.some)
