@@ -1,11 +1,11 @@
 // Forms within the width of a list, at 128 bits: four values, each over a denominator that divides
 // the joint one.
-ghost use Rattle.std.specs.Prelude.{◌≡◌, ◌≤◌, ◌-◌, ◌^◌, ℕ, ◌<◌, true, All, slice_index};
+ghost use Rattle.std.specs.Prelude.{◌≡◌, ◌≤◌, ◌-◌, ◌^◌, ℕ, ◌<◌, All, slice_index};
 ghost use Rattle.std.specs.Int.{w128};
 ghost use Rattle.kernel_int.specs.ValueSteps.{IsDivided};
 ghost use Rattle.op_list.specs.Apply.{row_of};
 ghost use Rattle.kernel_int.specs.Forms.{AreKept, IsMoved, IsNarrowed};
-ghost use Rattle.kernel_int.specs.Forms.{IsWidened, extent_at, factor, factors_at};
+ghost use Rattle.kernel_int.specs.Forms.{IsWidened, extent_at, factors_at};
 ghost use Rattle.kernel_int.specs.Joint.{MadeFits, MadeWithin, RowMade, RowWithin, extent_size};
 
 use crate::form::{Divisor, Extent, Form, NO_DIVISOR};
