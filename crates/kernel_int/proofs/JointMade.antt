@@ -1,11 +1,9 @@
 -- From the width of a list to what a value and a row need, and back from the new extent to the next width.
-use Rattle.std.proofs.Common.{◌≡◌, ℕ, zero, suc, ◌+◌, ◌*◌, ◌/◌, ◌^◌, ◌<◌, ◌≤◌, max, true, List, ℤ, pos, refl, sym, ap, ◌∙◌, arith, subst}
+use Rattle.std.proofs.Common.{◌≡◌, ℕ, zero, suc, ◌+◌, ◌*◌, ◌/◌, ◌^◌, ◌<◌, ◌≤◌, List, pos, refl, sym, ap, ◌∙◌, arith, subst}
 use Rattle.std.specs.Prelude.{Option, Some, None, IfSome, ◌<ℤ◌, unsigned_abs}
 use Rattle.std.proofs.Math.Nat.{mul-le-mul_left, mul-le-mul_right, mul-div_cancel_left, div-mul_cancel}
 use Rattle.frac_math.specs.Fraction.{ℚ}
-use Rattle.frac_math.proofs.FractionRing.{denominator_positive}
-use Rattle.frac_math.proofs.DitherLaws.{index_number_below}
-use Rattle.op_list.specs.declared.op.Op.TheVariants.{Dither, Scale, Min, Max}
+use Rattle.op_list.specs.declared.op.Op.TheVariants.{Dither, Scale}
 use Rattle.op_list.specs.Values.{entry, fraction_in}
 use Rattle.op_list.specs.Apply.{row_of}
 use Rattle.op_list.proofs.Four.{get_or-four}

@@ -1,12 +1,11 @@
 -- Operations on fractions that work out new numbers, within the width of a list.
-use Rattle.std.proofs.Common.{◌≡◌, ℕ, ◌+◌, ◌*◌, ◌/◌, ◌^◌, ◌<◌, ◌≤◌, true, List, ℤ, pos, refl, sym, ap, ◌∙◌, arith, subst}
-use Rattle.std.specs.Prelude.{Option, ◌<ℤ◌, unsigned_abs}
+use Rattle.std.proofs.Common.{◌≡◌, ℕ, ◌*◌, ◌/◌, ◌<◌, ◌≤◌, true, List, ℤ, pos, refl, sym, ap, ◌∙◌, arith, subst}
+use Rattle.std.specs.Prelude.{Option, unsigned_abs}
 use Rattle.std.specs.Int.{w128}
 use Rattle.frac_math.specs.Fraction.{ℚ}
 use Rattle.frac_math.proofs.FractionRing.{denominator_positive, product_positive}
 use Rattle.op_list.specs.declared.types.Stage.{Stage}
 use Rattle.op_list.specs.declared.op.Op.{Op}
-use Rattle.op_list.specs.declared.op.Op.TheVariants.{Read, Write, SwapBytes, Unpack, Pack, Clear, LeftShift, RightShift, Swizzle, Convert}
 use Rattle.op_list.specs.declared.op.Op.TheVariants.{Dither, Linear, Scale, Min, Max}
 use Rattle.op_list.specs.Types.{is_rational}
 use Rattle.op_list.specs.Typing.{may_follow, stage_after}
@@ -14,16 +13,17 @@ use Rattle.op_list.specs.Values.{entry}
 use Rattle.op_list.specs.Apply.{row_of}
 use Rattle.op_list.proofs.Applied.{dither_levels}
 use Rattle.op_range.specs.declared.width.Width.{Width}
-use Rattle.op_range.specs.Width.{size_in, fractions_width, limited_width, mapped_width, dithered_width, scaled_width}
+use Rattle.op_range.specs.Width.{size_in, fractions_width, limited_width, mapped_width}
 use Rattle.op_range.specs.Width.{rows_denominator, entries_denominator, limited_size}
 use Rattle.op_range.proofs.Multiples.{rows_positive, entries_positive}
 use Rattle.kernel_int.specs.declared.form.Extent.{Extent}
 use Rattle.kernel_int.specs.declared.form.Form.{Form}
-use Rattle.kernel_int.specs.Forms.{AreMade, IsStep, extent_at, factor, factors_at}
-use Rattle.kernel_int.specs.ValueSteps.{is_by_value, IsMade}
-use Rattle.kernel_int.specs.Joint.{AreSame, HasWidth, IsGiven, IsJoint, IsJointStep, IsSmall, MadeFits, MadeWithin, RowMade, RowWithin}
-use Rattle.kernel_int.specs.Joint.{extent_size, made_denominator, made_size}
-use Rattle.kernel_int.proofs.JointMade.{grown, row_fits, row_width, scale_fits, scale_width, limit_fits, limit_width, dither_fits, dither_width}
+use Rattle.kernel_int.specs.Forms.{AreMade, IsStep, extent_at, factors_at}
+use Rattle.kernel_int.specs.ValueSteps.{is_by_value}
+use Rattle.kernel_int.specs.Joint.{AreSame, HasWidth, IsGiven, IsJointStep, IsSmall, MadeFits, MadeWithin, RowMade, RowWithin}
+use Rattle.kernel_int.specs.Joint.{extent_size}
+use Rattle.kernel_int.proofs.JointMade.{grown, row_fits, row_width, scale_fits, scale_width}
+use Rattle.kernel_int.proofs.JointMade.{limit_fits, limit_width, dither_fits, dither_width}
 use Rattle.kernel_int.proofs.JointMade.{LimitFits}
 use Rattle.kernel_int.proofs.JointValues.{abs_positive}
 use Rattle.kernel_int.proofs.JointSteps.{positive_denominator, same_fractions}

@@ -1,11 +1,11 @@
 -- A row of Linear, within the width of a list.
-use Rattle.std.proofs.Common.{◌≡◌, ℕ, zero, suc, ◌+◌, ◌*◌, ◌/◌, ◌^◌, ◌<◌, ◌≤◌, ◌⊎◌, inl, inr, ⊎_elim, List, ℤ, pos, negsuc, ◌*ℤ◌, ◌+ℤ◌}
-use Rattle.std.proofs.Common.{refl, sym, ap, ◌∙◌, arith, subst, FitsSigned}
-use Rattle.std.specs.Prelude.{◌≤ℤ◌, ◌<ℤ◌, unsigned_abs}
+use Rattle.std.proofs.Common.{◌≡◌, ℕ, ◌+◌, ◌*◌, ◌/◌, ◌^◌, ◌<◌, ◌≤◌, ◌⊎◌, inl, inr, ⊎_elim, List, ℤ, pos, negsuc, ◌*ℤ◌}
+use Rattle.std.proofs.Common.{ap, ◌∙◌, arith}
+use Rattle.std.specs.Prelude.{unsigned_abs}
 use Rattle.std.specs.Int.{w128}
 use Rattle.std.proofs.Math.IntN.{pos-*ℤ-pos}
-use Rattle.std.proofs.Math.Nat.{mul-le-mul_left, mul-le-mul_right}
-use Rattle.std.proofs.lemmas.Int.{ints, unsigned_abs-mul}
+use Rattle.std.proofs.Math.Nat.{mul-le-mul_right}
+use Rattle.std.proofs.lemmas.Int.{unsigned_abs-mul}
 use Rattle.frac_math.specs.Fraction.{ℚ}
 use Rattle.frac_math.proofs.Integers.{mul_assoc_ℤ}
 use Rattle.frac_math.proofs.FractionRing.{product_positive}
@@ -17,7 +17,7 @@ use Rattle.kernel_int.specs.Rules.{with_product, row_sum}
 use Rattle.kernel_int.specs.Forms.{IsTerm, IsRow, IsInside, extent_at, factor}
 use Rattle.kernel_int.specs.Joint.{extent_size, IsAround, IsFactorOf, IsMultiple, RowWithin, term_most, row_most, row_total, part}
 use Rattle.kernel_int.proofs.Intervals.{four_cases, five_cases}
-use Rattle.kernel_int.proofs.JointValues.{abs_sum, in_size, product_size, small_fits, around_size}
+use Rattle.kernel_int.proofs.JointValues.{abs_sum, product_size, small_fits, around_size}
 
 -- ---- a factor: q is e over the denominator of the coefficient, and g is d over a, the old denominator
 pub term_value : (c k : ℤ) (q g a n d e : ℕ) → k ≡ c *ℤ pos (q * g) → q * n ≡ e → g * a ≡ d → k *ℤ pos (a * n) ≡ c *ℤ pos (d * e)

@@ -1,8 +1,7 @@
 -- One operation, within the width of a list.
-use Rattle.std.proofs.Common.{◌≡◌, ◌≢◌, ℕ, Bool, inl, ◌+◌, ◌-◌, ◌*◌, ◌/◌, ◌^◌, ◌<◌, ◌≤◌, true, false, List, ℤ, pos, refl, sym, ap, ◌∙◌, arith, subst}
+use Rattle.std.proofs.Common.{◌≡◌, ℕ, Bool, inl, ◌-◌, ◌^◌, ◌<◌, ◌≤◌, true, false, List, ℤ, pos, refl, sym, ap, arith, subst}
 use Rattle.std.specs.Prelude.{Option, Some, None, All, if◌then◌else◌, ◌<ℤ◌, unsigned_abs, slice_index, FitsSigned}
 use Rattle.std.specs.Int.{w128}
-use Rattle.std.proofs.Math.Nat.{mul-le-mul_right}
 use Rattle.std.proofs.lemmas.Int.{ints}
 use Rattle.frac_math.specs.Fraction.{ℚ}
 use Rattle.op_list.specs.declared.types.PixType.{PixType}
@@ -10,27 +9,22 @@ use Rattle.op_list.specs.declared.types.PixType.TheVariants.{U8, U16, U32, Rat}
 use Rattle.op_list.specs.declared.types.Stage.{Stage}
 use Rattle.op_list.specs.declared.types.Stage.TheVariants.{Start, Typed, Ended}
 use Rattle.op_list.specs.declared.op.Op.{Op}
-use Rattle.op_list.specs.declared.op.Op.TheVariants.{Read, Write, SwapBytes, Unpack, Pack, Clear, LeftShift, RightShift, Swizzle, Convert}
-use Rattle.op_list.specs.declared.op.Op.TheVariants.{Dither, Linear, Scale, Min, Max}
-use Rattle.op_list.specs.Types.{bits_at, is_rational, is_whole, is_wide, is_typed, is_start, is_whole_type}
+use Rattle.op_list.specs.declared.op.Op.TheVariants.{Read, SwapBytes, Unpack, Pack, Clear, LeftShift, RightShift, Swizzle, Convert}
+use Rattle.op_list.specs.Types.{bits_at, is_rational, is_whole, is_wide, is_typed, is_whole_type}
 use Rattle.op_list.specs.Types.{bits as type_bits}
-use Rattle.op_list.specs.Typing.{may_follow, are_good, stage_after}
+use Rattle.op_list.specs.Typing.{may_follow, stage_after}
 use Rattle.op_list.proofs.Applied.{swizzle_lanes}
 use Rattle.op_range.proofs.UsedSteps.{index_below}
 use Rattle.op_list.specs.Values.{entry}
-use Rattle.op_list.specs.Apply.{row_of}
 use Rattle.op_range.specs.declared.width.Width.{Width}
-use Rattle.op_range.specs.Width.{size_in, width_after, fractions_width, whole_width, width_of, cleared_width, limited_width, scaled_width}
-use Rattle.op_range.specs.Width.{dithered_width, mapped_width, rows_denominator, entries_denominator}
+use Rattle.op_range.specs.Width.{size_in, width_after, fractions_width, whole_width}
 use Rattle.kernel_int.specs.declared.form.Extent.{Extent}
 use Rattle.kernel_int.specs.declared.form.Form.{Form}
-use Rattle.kernel_int.specs.Forms.{AreKept, IsCleared, IsConverted, IsMoved, IsNarrowed, IsWidened, extent_at, factor, factors_at}
-use Rattle.kernel_int.specs.Joint.{AreSame, HasWidth, IsGiven, IsJoint, IsJointStep, IsSmall, extent_size}
-use Rattle.kernel_int.proofs.Fours.{four_at}
+use Rattle.kernel_int.specs.Forms.{AreKept, IsCleared, IsMoved, IsNarrowed, IsStep, IsWidened, extent_at, factor, factors_at}
+use Rattle.kernel_int.specs.Joint.{AreSame, HasWidth, IsGiven, IsJoint, IsJointStep, extent_size}
 use Rattle.kernel_int.proofs.JointClears.{clear_width}
 use Rattle.kernel_int.proofs.JointMade.{width_same, size_of_value, old_small}
 use Rattle.kernel_int.proofs.JointValues.{small_fits}
-use Rattle.kernel_int.proofs.Swizzles.{rational_not_whole}
 
 -- ---- kinds of stages
 pub not_wide : (stage : Stage) → is_wide stage ≡ true → is_rational stage ≡ false
@@ -81,50 +75,41 @@ positive_denominator new n is some = rw is (above n some)
     above n h = omega (arith, ints, h)
 
 -- ---- operations on whole numbers
-pub swap_bytes_step : (bits : ℕ) (stage : Stage) (before after : Form) (w next : Width) → IsGiven stage SwapBytes before w next
-    → after.count ≡ 4 → IsJointStep bits stage before SwapBytes after next
+whole_step : (bits : ℕ) (op : Op) (stage : Stage) (before after : Form) (next : Width) → is_rational (stage_after stage op) ≡ false
+    → after.count ≡ 4 → IsStep bits w128 stage before op after → IsJointStep bits stage before op after next
+whole_step bits op stage before after next kind count step =
+    record { few = omega (arith, count); step = step; joint = whole_joint (stage_after stage op) after next kind count }
+
+pub swap_bytes_step : (bits : ℕ) (stage : Stage) (before after : Form) (w next : Width)
+    → IsGiven stage SwapBytes before w next → after.count ≡ 4 → IsJointStep bits stage before SwapBytes after next
 unfolding may_follow stage_after
-swap_bytes_step bits stage before after w next given count = record {
-  few = omega (arith, count);
-  step = omega (arith, count, given.joint.count);
-  joint = whole_joint stage after next (not_wide stage given.follows) count;
-}
+swap_bytes_step bits stage before after w next given count =
+    whole_step bits SwapBytes stage before after next (not_wide stage given.follows) count (omega (arith, count, given.joint.count))
 
 pub unpack_step : (bits : ℕ) (widths : List ℕ) (stage : Stage) (before after : Form) (w next : Width)
     → IsGiven stage (Unpack widths) before w next → after.count ≡ 4 → IsJointStep bits stage before (Unpack widths) after next
 unfolding may_follow stage_after
-unpack_step bits widths stage before after w next given count = record {
-  few = omega (arith, count);
-  step = omega (arith, given.joint.count);
-  joint = whole_joint stage after next (not_whole stage given.follows) count;
-}
+unpack_step bits widths stage before after w next given count =
+    whole_step bits (Unpack widths) stage before after next (not_whole stage given.follows) count (omega (arith, given.joint.count))
 
 pub pack_step : (bits : ℕ) (widths : List ℕ) (stage : Stage) (before after : Form) (w next : Width)
     → IsGiven stage (Pack widths) before w next → after.count ≡ 4 → IsJointStep bits stage before (Pack widths) after next
 unfolding may_follow stage_after
-pack_step bits widths stage before after w next given count = record {
-  few = omega (arith, count);
-  step = λ j below. inl (omega (arith, below, given.joint.count));
-  joint = whole_joint stage after next (not_whole stage given.follows) count;
-}
+pack_step bits widths stage before after w next given count =
+    whole_step bits (Pack widths) stage before after next (not_whole stage given.follows) count
+    (λ j below. inl (omega (arith, below, given.joint.count)))
 
 pub left_shift_step : (bits n : ℕ) (stage : Stage) (before after : Form) (w next : Width)
     → IsGiven stage (LeftShift n) before w next → after.count ≡ 4 → IsJointStep bits stage before (LeftShift n) after next
 unfolding may_follow stage_after
-left_shift_step bits n stage before after w next given count = record {
-  few = omega (arith, count);
-  step = omega (arith, count, given.joint.count);
-  joint = whole_joint stage after next (not_whole stage given.follows) count;
-}
+left_shift_step bits n stage before after w next given count =
+    whole_step bits (LeftShift n) stage before after next (not_whole stage given.follows) count (omega (arith, count, given.joint.count))
 
 pub right_shift_step : (bits n : ℕ) (stage : Stage) (before after : Form) (w next : Width)
     → IsGiven stage (RightShift n) before w next → after.count ≡ 4 → IsJointStep bits stage before (RightShift n) after next
 unfolding may_follow stage_after
-right_shift_step bits n stage before after w next given count = record {
-  few = omega (arith, count);
-  step = omega (arith, count, given.joint.count);
-  joint = whole_joint stage after next (not_whole stage given.follows) count;
-}
+right_shift_step bits n stage before after w next given count =
+    whole_step bits (RightShift n) stage before after next (not_whole stage given.follows) count (omega (arith, count, given.joint.count))
 
 -- ---- Clear and Swizzle
 cleared_any : (rational : Bool) (before : Form) (v : ℕ) (given : Option ℚ) (k : ℤ) (new : Extent) → IsCleared w128 true before v given k new
@@ -172,112 +157,82 @@ swizzle_step bits from stage before after w next given count moved = record {
         (given.joint.extents kind u (index_below from (swizzle_from from stage before w next given) v)) (sym same.denominator) (sym size))
 
 -- ---- Convert
-rational_type : (to : PixType) → is_rational (Typed to) ≡ true → is_whole_type to ≡ true → ⊥
-rational_type U8 h p = cc
-rational_type U16 h p = cc
-rational_type U32 h p = cc
-rational_type Rat h p = cc
-
-whole_type : (to : PixType) → is_whole_type to ≡ true → is_rational (Typed to) ≡ false
-whole_type U8 h = refl
-whole_type U16 h = refl
-whole_type U32 h = refl
-whole_type Rat h = cc
-
--- fractions stay fractions
-pub kept_fractions_step : (bits : ℕ) (expand : Bool) (stage : Stage) (before after : Form) (w next : Width)
-    → is_rational stage ≡ true → IsGiven stage (Convert Rat expand) before w next → after.count ≡ 4 → AreKept before after
-    → IsJointStep bits stage before (Convert Rat expand) after next
-unfolding stage_after fractions_width
-kept_fractions_step bits expand stage before after w next kind given count kept = record {
-  few = omega (arith, count);
-  step = record {
-    there = omega (arith, count, given.joint.count);
-    widened = λ whole to. absurd (rational_not_whole stage kind whole);
-    narrowed = λ rational to. absurd (cc to);
-    same = λ rational to. kept;
-  };
-  joint = record { count = count; extents = λ is v below. each v below };
-}
-  where
-    each : (v : ℕ) → v < 4 → HasWidth (extent_at after v) next.denominator (size_in next v)
-    each v below =
-        let same = same_fractions stage (Convert Rat expand) w next kind given.same in
-        rw (kept v (omega (arith, below, count))).same
-        (width_same (extent_at before v) w.denominator next.denominator (size_in w v) (size_in next v)
-        (given.joint.extents kind v below) (sym same.denominator) (sym (same.sizes v below)))
-
 -- each denominator fits
 denominator_fits : (old : Extent) (d size : ℕ) → 0 < d → d < 2 ^ 126 → HasWidth old d size → FitsSigned w128 old.denominator
 denominator_fits old d size some small has = small_fits old.denominator (unsigned_abs old.denominator) (omega arith)
     (omega (arith, (old_small old d size some has).0, small))
 
-pub divisors_fit : (to : PixType) (expand : Bool) (stage : Stage) (before : Form) (w next : Width) → is_rational stage ≡ true
-    → IsGiven stage (Convert to expand) before w next → (v : ℕ) → v < 4
+pub divisors_fit : (to : PixType) (expand : Bool) (stage : Stage) (before : Form) (w next : Width)
+    → IsGiven stage (Convert to expand) before w next → is_rational stage ≡ true → (v : ℕ) → v < 4
     → (pos 0 <ℤ (extent_at before v).denominator) × FitsSigned w128 (extent_at before v).denominator
-divisors_fit to expand stage before w next kind given v below =
+divisors_fit to expand stage before w next given kind v below =
     let has = given.joint.extents kind v below in
     (has.positive, denominator_fits (extent_at before v) w.denominator (size_in w v) given.small.positive given.small.denominator has)
 
--- fractions become whole numbers
-pub narrowed_step : (bits : ℕ) (to : PixType) (expand : Bool) (stage : Stage) (before after : Form) (w next : Width)
-    → is_rational stage ≡ true → is_whole_type to ≡ true → IsGiven stage (Convert to expand) before w next
-    → 2 ^ bits_at (stage_after stage (Convert to expand)) ≤ 2 ^ bits → after.count ≡ 4
-    → ((count v : ℕ) → v < 4 → IsNarrowed w128 count before after v) → IsJointStep bits stage before (Convert to expand) after next
-unfolding stage_after
-narrowed_step bits to expand stage before after w next kind whole given stored count narrowed = record {
-  few = omega (arith, count);
-  step = record {
-    there = omega (arith, count, given.joint.count);
-    widened = λ is_whole to_rational. absurd (rational_not_whole stage kind is_whole);
-    narrowed = λ rational to_whole. (kind, stored, λ v below. narrowed (type_bits to) v (omega (arith, below, count)));
-    same = λ rational to_rational. absurd (cc (whole, to_rational));
-  };
-  joint = whole_joint (Typed to) after next (whole_type to whole) count;
-}
+-- fractions that stay fractions
+kept_width : (expand : Bool) (stage : Stage) (before after : Form) (w next : Width) → is_rational stage ≡ true
+    → IsGiven stage (Convert Rat expand) before w next → after.count ≡ 4 → AreKept before after → (v : ℕ) → v < 4
+    → HasWidth (extent_at after v) next.denominator (size_in next v)
+unfolding fractions_width
+kept_width expand stage before after w next kind given count kept v below =
+    let same = same_fractions stage (Convert Rat expand) w next kind given.same in
+    rw (kept v (omega (arith, below, count))).same
+    (width_same (extent_at before v) w.denominator next.denominator (size_in w v) (size_in next v)
+    (given.joint.extents kind v below) (sym same.denominator) (sym (same.sizes v below)))
 
--- whole numbers become fractions
-pub widened_step : (bits : ℕ) (expand : Bool) (stage : Stage) (before after : Form) (w next : Width) → is_rational stage ≡ false
-    → IsGiven stage (Convert Rat expand) before w next → after.count ≡ 4
-    → ((v : ℕ) → v < 4 → IsWidened w128 (2 ^ bits_at stage) (extent_at after v))
-    → ((v : ℕ) → v < 4 → extent_size (extent_at after v) ≡ 2 ^ bits_at stage - 1)
-    → IsJointStep bits stage before (Convert Rat expand) after next
-unfolding stage_after
-widened_step bits expand stage before after w next kind given count widened sizes = record {
-  few = omega (arith, count);
-  step = record {
-    there = omega (arith, count, given.joint.count);
-    widened = λ whole to. (whole, λ v below. (omega (arith, below, count, given.joint.count), widened v (omega (arith, below, count))));
-    narrowed = λ rational to. absurd (cc);
-    same = λ rational to. absurd (cc (rational, kind));
-  };
-  joint = record { count = count; extents = λ is v below. each v below };
-}
+-- whole numbers that become fractions
+widened_width : (expand : Bool) (stage : Stage) (before after : Form) (w next : Width) → is_rational stage ≡ false
+    → IsGiven stage (Convert Rat expand) before w next → (v : ℕ) → v < 4 → IsWidened w128 (2 ^ bits_at stage) (extent_at after v)
+    → extent_size (extent_at after v) ≡ 2 ^ bits_at stage - 1 → HasWidth (extent_at after v) next.denominator (size_in next v)
+widened_width expand stage before after w next kind given v below widened sized =
+    let same = same_numbers stage (Convert Rat expand) w next kind given.same in
+    let size = size_of_value 1 (λ i. 2 ^ bits_at stage - 1) next v below same in
+    record {
+      positive = positive_denominator (extent_at after v) 1 widened.one (omega arith);
+      factor = 1;
+      over = omega (arith, ap unsigned_abs widened.one, same.denominator);
+      most = omega (arith, sized, size);
+    }
+
+-- what a Convert does to a form
+pub record IsRetyped (stage : Stage) (to : PixType) (before after : Form) : Type 0 where
+  pub count : after.count ≡ 4
+  pub kept : is_rational stage ≡ true → is_whole_type to ≡ false → AreKept before after
+  pub narrowed : is_rational stage ≡ true → is_whole_type to ≡ true → (bits v : ℕ) → v < 4 → IsNarrowed w128 bits before after v
+  pub widened : is_rational stage ≡ false → is_whole_type to ≡ false → (v : ℕ) → v < 4
+      → IsWidened w128 (2 ^ bits_at stage) (extent_at after v) × (extent_size (extent_at after v) ≡ 2 ^ bits_at stage - 1)
+
+retyped_width : (to : PixType) (expand : Bool) (stage : Stage) (before after : Form) (w next : Width)
+    → IsGiven stage (Convert to expand) before w next → IsRetyped stage to before after → is_rational (Typed to) ≡ true
+    → (v : ℕ) → v < 4 → HasWidth (extent_at after v) next.denominator (size_in next v)
+retyped_width U8 expand stage before after w next given retyped to v below = absurd (cc to)
+retyped_width U16 expand stage before after w next given retyped to v below = absurd (cc to)
+retyped_width U32 expand stage before after w next given retyped to v below = absurd (cc to)
+retyped_width Rat expand stage before after w next given retyped to v below = either (is_rational stage) refl
   where
-    each : (v : ℕ) → v < 4 → HasWidth (extent_at after v) next.denominator (size_in next v)
-    each v below =
-        let same = same_numbers stage (Convert Rat expand) w next kind given.same in
-        let one = (widened v below).one in
-        let size = size_of_value 1 (λ i. 2 ^ bits_at stage - 1) next v below same in
-        record {
-          positive = positive_denominator (extent_at after v) 1 one (omega arith);
-          factor = 1;
-          over = omega (arith, ap unsigned_abs one, same.denominator);
-          most = omega (arith, sizes v below, size);
-        }
+    either : (b : Bool) → is_rational stage ≡ b → HasWidth (extent_at after v) next.denominator (size_in next v)
+    either true kind = kept_width expand stage before after w next kind given retyped.count (retyped.kept kind refl) v below
+    either false kind =
+        let widened = retyped.widened kind refl v below in
+        widened_width expand stage before after w next kind given v below widened.0 widened.1
 
--- whole numbers get another whole type
-pub kept_numbers_step : (bits : ℕ) (to : PixType) (expand : Bool) (stage : Stage) (before after : Form) (w next : Width)
-    → is_rational stage ≡ false → is_whole_type to ≡ true → IsGiven stage (Convert to expand) before w next → after.count ≡ 4
-    → IsJointStep bits stage before (Convert to expand) after next
+pub convert_step : (bits : ℕ) (to : PixType) (expand : Bool) (stage : Stage) (before after : Form) (w next : Width)
+    → IsGiven stage (Convert to expand) before w next → IsRetyped stage to before after
+    → 2 ^ bits_at (stage_after stage (Convert to expand)) ≤ 2 ^ bits → IsJointStep bits stage before (Convert to expand) after next
 unfolding stage_after
-kept_numbers_step bits to expand stage before after w next kind whole given count = record {
-  few = omega (arith, count);
+convert_step bits to expand stage before after w next given retyped stored = record {
+  few = omega (arith, retyped.count);
   step = record {
-    there = omega (arith, count, given.joint.count);
-    widened = λ is_whole to_rational. absurd (cc (whole, to_rational));
-    narrowed = λ rational to_whole. absurd (cc (rational, kind));
-    same = λ rational to_rational. absurd (cc (rational, kind));
+    there = omega (arith, retyped.count, given.joint.count);
+    widened = λ whole rational. (
+      whole,
+      λ v below. (
+        omega (arith, below, retyped.count, given.joint.count),
+        (retyped.widened (not_whole stage whole) rational v (omega (arith, below, retyped.count))).0,
+      ),
+    );
+    narrowed = λ kind whole. (kind, stored, λ v below. retyped.narrowed kind whole (type_bits to) v (omega (arith, below, retyped.count)));
+    same = retyped.kept;
   };
-  joint = whole_joint (Typed to) after next (whole_type to whole) count;
+  joint = record { count = retyped.count; extents = retyped_width to expand stage before after w next given retyped };
 }

@@ -1,5 +1,5 @@
 -- Each value made from that value alone, within the width of a list.
-use Rattle.std.proofs.Common.{◌≡◌, ℕ, zero, suc, ◌+◌, ◌-◌, ◌*◌, ◌/◌, ◌^◌, ◌<◌, ◌≤◌, max, inl, ⊎_elim, ℤ, pos, negsuc, ◌*ℤ◌, ◌+ℤ◌, refl, sym}
+use Rattle.std.proofs.Common.{◌≡◌, ℕ, zero, suc, ◌+◌, ◌*◌, ◌/◌, ◌^◌, ◌<◌, ◌≤◌, max, inl, ⊎_elim, ℤ, pos, negsuc, ◌*ℤ◌, ◌+ℤ◌, refl, sym}
 use Rattle.std.proofs.Common.{ap, ◌∙◌, arith, subst, FitsSigned, to_z, of_z}
 use Rattle.std.specs.Prelude.{◌≤ℤ◌, ◌<ℤ◌, unsigned_abs}
 use Rattle.std.specs.Int.{w128}

@@ -1,14 +1,13 @@
 -- The widths on the way through a list that fits stay below 2^126.
-use Rattle.std.proofs.Common.{◌≡◌, ℕ, zero, suc, ◌+◌, ◌-◌, ◌^◌, ◌<◌, ◌≤◌, Bool, true, false, List, [], ◌∷◌, length, take, drop, max, min}
-use Rattle.std.proofs.Common.{if◌then◌else◌, refl, sym, ap, ◌∙◌, arith, subst, add-one}
-use Rattle.std.specs.Prelude.{Option, Some, None}
-use Rattle.op_list.specs.declared.types.PixType.{PixType}
+use Rattle.std.proofs.Common.{◌≡◌, ℕ, zero, suc, ◌+◌, ◌-◌, ◌^◌, ◌<◌, ◌≤◌, Bool, true, false, List, [], ◌∷◌, length, drop}
+use Rattle.std.proofs.Common.{if◌then◌else◌, refl, ap, arith, subst, add-one}
+use Rattle.std.specs.Prelude.{Some, None}
 use Rattle.op_list.specs.declared.types.PixType.TheVariants.{U8, U16, U32, Rat}
 use Rattle.op_list.specs.declared.types.Stage.{Stage}
 use Rattle.op_list.specs.declared.types.Stage.TheVariants.{Start, Typed, Ended}
 use Rattle.op_list.specs.declared.op.Op.{Op}
-use Rattle.op_list.specs.declared.op.Op.TheVariants.{Read, Write, SwapBytes, Convert}
-use Rattle.op_list.specs.Types.{bits, bits_at, is_rational}
+use Rattle.op_list.specs.declared.op.Op.TheVariants.{Read, Write, Convert}
+use Rattle.op_list.specs.Types.{bits_at, is_rational}
 use Rattle.op_list.specs.Typing.{are_typed, stage_after, stage_from}
 use Rattle.op_list.proofs.Typed.{typed_parts}
 use Rattle.op_list.proofs.Four.{get_or-four}

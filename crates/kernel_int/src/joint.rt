@@ -1,5 +1,5 @@
 // Extents within the width of a list, at 128 bits.
-ghost use Rattle.std.specs.Prelude.{◌≡◌, ◌*◌, ◌<◌, ◌^◌};
+ghost use Rattle.std.specs.Prelude.{◌≡◌, ◌<◌, ◌^◌};
 ghost use Rattle.kernel_int.specs.Joint.{IsAround, extent_size};
 
 use crate::form::Extent;

@@ -4,7 +4,8 @@ ghost use Rattle.std.specs.Int.{w128};
 ghost use Rattle.op_list.specs.Values.{entry};
 ghost use Rattle.kernel_int.specs.Forms.{IsCleared, IsConstant, extent_at, factor, factors_at};
 
-use crate::form::{Extent, Form, NO_DIVISOR};
+use crate::form::{Extent, Form};
+use crate::joint_form::form_of;
 use crate::made::Made;
 use frac_math::Frac;
 
@@ -20,26 +21,6 @@ pub fn joint_clear_form(entries: &[Option<Frac>; 4], before: &Form) -> Form
     let third = joint_cleared(&entries[2], before, 2);
     let fourth = joint_cleared(&entries[3], before, 3);
     form_of(first, second, third, fourth)
-}
-
-// The form of four values.
-fn form_of(first: Made, second: Made, third: Made, fourth: Made) -> Form
-    ensures count { result.count ≡ 4 }
-    ensures first { (factors_at result 0 ≡ first.factors) × (extent_at result 0 ≡ first.extent) }
-    ensures second { (factors_at result 1 ≡ second.factors) × (extent_at result 1 ≡ second.extent) }
-    ensures third { (factors_at result 2 ≡ third.factors) × (extent_at result 2 ≡ third.extent) }
-    ensures fourth { (factors_at result 3 ≡ fourth.factors) × (extent_at result 3 ≡ fourth.extent) }
-{
-    let (first_row, first_extent) = (first.factors, first.extent);
-    let (second_row, second_extent) = (second.factors, second.extent);
-    let (third_row, third_extent) = (third.factors, third.extent);
-    let (fourth_row, fourth_extent) = (fourth.factors, fourth.extent);
-    Form {
-        count: 4,
-        extents: [first_extent, second_extent, third_extent, fourth_extent],
-        factors: [first_row, second_row, third_row, fourth_row],
-        divisors: [NO_DIVISOR; 4],
-    }
 }
 
 // What value v is cleared to: the entry alone, or what it was.

@@ -1,11 +1,11 @@
 // Forms within the width of a list, at 128 bits: four values, each over a denominator that divides
 // the joint one.
-ghost use Rattle.std.specs.Prelude.{◌≡◌, ◌≤◌, ◌-◌, ◌^◌, ℕ, ◌<◌, true, All, slice_index};
+ghost use Rattle.std.specs.Prelude.{◌≡◌, ◌≤◌, ◌-◌, ◌^◌, ℕ, ◌<◌, All, slice_index};
 ghost use Rattle.std.specs.Int.{w128};
 ghost use Rattle.kernel_int.specs.ValueSteps.{IsDivided};
 ghost use Rattle.op_list.specs.Apply.{row_of};
 ghost use Rattle.kernel_int.specs.Forms.{AreKept, IsMoved, IsNarrowed};
-ghost use Rattle.kernel_int.specs.Forms.{IsWidened, extent_at, factor, factors_at};
+ghost use Rattle.kernel_int.specs.Forms.{IsWidened, extent_at, factors_at};
 ghost use Rattle.kernel_int.specs.Joint.{MadeFits, MadeWithin, RowMade, RowWithin, extent_size};
 
 use crate::form::{Divisor, Extent, Form, NO_DIVISOR};
@@ -15,31 +15,58 @@ use crate::made::Made;
 use frac_math::Frac;
 use op_list::Op;
 
+/// The form of four values.
+pub fn form_of(first: Made, second: Made, third: Made, fourth: Made) -> Form
+    ensures count { result.count ≡ 4 }
+    ensures first { (factors_at result 0 ≡ first.factors) × (extent_at result 0 ≡ first.extent) }
+    ensures second { (factors_at result 1 ≡ second.factors) × (extent_at result 1 ≡ second.extent) }
+    ensures third { (factors_at result 2 ≡ third.factors) × (extent_at result 2 ≡ third.extent) }
+    ensures fourth { (factors_at result 3 ≡ fourth.factors) × (extent_at result 3 ≡ fourth.extent) }
+{
+    let (first_row, first_extent) = (first.factors, first.extent);
+    let (second_row, second_extent) = (second.factors, second.extent);
+    let (third_row, third_extent) = (third.factors, third.extent);
+    let (fourth_row, fourth_extent) = (fourth.factors, fourth.extent);
+    Form {
+        count: 4,
+        extents: [first_extent, second_extent, third_extent, fourth_extent],
+        factors: [first_row, second_row, third_row, fourth_row],
+        divisors: [NO_DIVISOR; 4],
+    }
+}
+
+// What an operation makes of value v.
+fn made_at(op: &Op, before: &Form, v: usize, e: u128, d: u128) -> Made
+    requires v { v < 4 }
+    requires fits { MadeFits op.now v (extent_at before.now v) e d }
+    ensures { MadeWithin op.now v (extent_at before.now v) e d result.factors result.extent }
+{
+    let extent = before.extents[v];
+    joint_made(op, v, &extent, e, d)
+}
+
 /// The form after an operation that makes each value from that value alone: e is how many times the
 /// joint denominator grows, and d what it becomes.
 pub fn joint_made_form(op: &Op, before: &Form, e: u128, d: u128) -> Form
-    requires count { before.now.count ≡ 4 }
-    requires fits { (v : ℕ) → v < 4 → MadeFits op.now v (extent_at before.now v) e d }
+    requires { (v : ℕ) → v < 4 → MadeFits op.now v (extent_at before.now v) e d }
     ensures count { result.count ≡ 4 }
     ensures made { (v : ℕ) → v < 4 → MadeWithin op.now v (extent_at before.now v) e d
         (factors_at result v) (extent_at result v) }
 {
-    let extents = before.extents;
-    let mut after = Form {
-        count: 0,
-        extents,
-        factors: [[0; 5]; 4],
-        divisors: [NO_DIVISOR; 4],
-    };
-    for v in 0..4 {
-        let extent = before.extents[v];
-        let made = joint_made(op, v, &extent, e, d);
-        let factors = made.factors;
-        after.count += 1;
-        after.factors[v] = factors;
-        after.extents[v] = made.extent;
-    }
-    after
+    let first = made_at(op, before, 0, e, d);
+    let second = made_at(op, before, 1, e, d);
+    let third = made_at(op, before, 2, e, d);
+    let fourth = made_at(op, before, 3, e, d);
+    form_of(first, second, third, fourth)
+}
+
+// The row of value v.
+fn row_at(rows: &[[Frac; 5]; 4], before: &Form, v: usize, e: u128, d: u128) -> Made
+    requires v { v < 4 }
+    requires within { RowWithin e d (row_of rows.now v) before.now }
+    ensures { RowMade e d (row_of rows.now v) before.now result.factors result.extent }
+{
+    joint_row(&rows[v], e, d, before)
 }
 
 /// The form after a Linear: e is the least common denominator of its rows, and d the joint
@@ -50,21 +77,11 @@ pub fn joint_rows_form(rows: &[[Frac; 5]; 4], before: &Form, e: u128, d: u128) -
     ensures rows { (v : ℕ) → v < 4 → RowMade e d (row_of rows.now v) before.now
         (factors_at result v) (extent_at result v) }
 {
-    let extents = before.extents;
-    let mut after = Form {
-        count: 0,
-        extents,
-        factors: [[0; 5]; 4],
-        divisors: [NO_DIVISOR; 4],
-    };
-    for v in 0..4 {
-        let made = joint_row(&rows[v], e, d, before);
-        let factors = made.factors;
-        after.count += 1;
-        after.factors[v] = factors;
-        after.extents[v] = made.extent;
-    }
-    after
+    let first = row_at(rows, before, 0, e, d);
+    let second = row_at(rows, before, 1, e, d);
+    let third = row_at(rows, before, 2, e, d);
+    let fourth = row_at(rows, before, 3, e, d);
+    form_of(first, second, third, fourth)
 }
 
 /// Four values that stay what they are.

@@ -1,6 +1,6 @@
 // What an operation makes of each value from that value alone, within the width of a list, at 128
 // bits.
-ghost use Rattle.std.specs.Prelude.{◌≡◌, ◌*◌, ◌^◌, ◌<◌, ◌≤◌, pos, IfSome, ◌<ℤ◌, unsigned_abs};
+ghost use Rattle.std.specs.Prelude.{◌≡◌, ◌*◌, ◌^◌, ◌<◌, ◌≤◌, pos, ◌<ℤ◌, unsigned_abs};
 ghost use Rattle.std.specs.Int.{w128};
 ghost use Rattle.op_range.specs.Width.{limited_size};
 ghost use Rattle.kernel_int.specs.Forms.{factor};

@@ -1,18 +1,14 @@
-use Rattle.std.proofs.Common.{◌+◌, ap, arith, length-set}
 use Rattle.op_list.specs.Apply.{row_of}
+use Rattle.kernel_int.specs.Forms.{extent_at, factors_at}
 use Rattle.kernel_int.specs.Joint.{RowMade}
-use Rattle.kernel_int.proofs.Extents.{rows_more}
+use Rattle.kernel_int.proofs.Intervals.{four_cases}
 use Rattle.kernel_int.proofs.joint_form.joint_rows_form.Goals as goal
 
-pub loop-v-preserved : goal.loop-v-preserved
-loop-v-preserved c =
-    let made = c.joint_row-made.result in
-    record {
-      count = ap (λ n. n + 1) c.loop-v.invariant.count;
-      extents = rw length-set c.loop-v.invariant.extents;
-      factors = rw length-set c.loop-v.invariant.factors;
-      rows = rows_more (λ v factors extent. RowMade c.args.e c.args.d (row_of c.args.rows.now v) c.args.before.now factors extent)
-          c.loop-v.after.factors c.loop-v.after.extents c.loop-v.v made.factors made.extent (omega arith)
-          (omega arith) c.loop-v.invariant.rows
-          (c.joint_row-made.ensures.row, c.joint_row-made.ensures.denominator, c.joint_row-made.ensures.size);
-    }
+pub returns-clause-rows : goal.returns-clause-rows
+returns-clause-rows c =
+    let form = c.form_of.result in
+    let is = c.form_of.ensures in
+    λ v below. four_cases
+    (λ v. RowMade c.args.e c.args.d (row_of c.args.rows.now v) c.args.before.now (factors_at form v) (extent_at form v)) v below
+    (rw (is.first.0, is.first.1) c.row_at-first.ensures) (rw (is.second.0, is.second.1) c.row_at-second.ensures)
+    (rw (is.third.0, is.third.1) c.row_at-third.ensures) (rw (is.fourth.0, is.fourth.1) c.row_at-fourth.ensures)

@@ -1,5 +1,4 @@
-use Rattle.std.proofs.Common.{◌≡◌, arith, unsigned_abs, to_z, of_z}
-use Rattle.std.specs.Int.{w128}
+use Rattle.std.proofs.Common.{arith, unsigned_abs}
 use Rattle.kernel_int.proofs.Intervals.{plain}
 use Rattle.kernel_int.proofs.JointValues.{small_fits}
 use Rattle.kernel_int.proofs.JointRows.{factor_term, factor_size}

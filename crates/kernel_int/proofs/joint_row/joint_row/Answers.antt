@@ -1,10 +1,10 @@
-use Rattle.std.proofs.Common.{◌≡◌, ℕ, ◌+◌, ◌*◌, ◌<◌, ◌≤◌, ◌^◌, List, [], ◌∷◌, ℤ, pos, ◌*ℤ◌, refl, sym, ap, ◌∙◌, arith, subst, unsigned_abs}
+use Rattle.std.proofs.Common.{◌≡◌, ◌*◌, ◌<◌, ◌≤◌, ◌^◌, List, [], ◌∷◌, ℤ, arith, subst, unsigned_abs}
 use Rattle.std.proofs.Common.{to_z, of_z}
 use Rattle.std.specs.Int.{w128}
 use Rattle.op_list.specs.Values.{fraction_in}
 use Rattle.frac_math.proofs.FractionRing.{product_positive}
 use Rattle.kernel_int.specs.Forms.{IsTerm, extent_at, factor}
-use Rattle.kernel_int.specs.Joint.{extent_size, part, row_total, row_most, term_most}
+use Rattle.kernel_int.specs.Joint.{part, row_total, row_most, term_most}
 use Rattle.kernel_int.proofs.Intervals.{plain, four_cases, five_cases}
 use Rattle.kernel_int.proofs.JointValues.{small_fits}
 use Rattle.kernel_int.proofs.JointRows.{row_is, total_below, constant_within}

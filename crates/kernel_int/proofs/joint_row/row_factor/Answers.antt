@@ -1,5 +1,4 @@
-use Rattle.std.proofs.Common.{◌≡◌, arith, unsigned_abs, to_z, of_z, slice_index_or}
-use Rattle.std.specs.Int.{w128}
+use Rattle.std.proofs.Common.{◌≡◌, arith, unsigned_abs, slice_index_or}
 use Rattle.std.proofs.lemmas.List.{get_or_default}
 use Rattle.frac_math.specs.Fraction.{nat}
 use Rattle.op_list.specs.Values.{fraction_in}

@@ -1,4 +1,4 @@
-use Rattle.std.proofs.Common.{rules, ◌≡◌, ◌*◌, ◌/◌, ◌<◌, ◌^◌, ◌*ℤ◌, pos, sym, ap, arith, subst, FitsSigned, unsigned_abs, to_z, of_z}
+use Rattle.std.proofs.Common.{rules, ◌≡◌, ◌*◌, ◌/◌, ◌*ℤ◌, pos, sym, ap, arith, subst, FitsSigned, unsigned_abs, to_z, of_z}
 use Rattle.std.specs.Int.{w128}
 use Rattle.std.proofs.lemmas.Int.{unsigned_abs-mul}
 use Rattle.kernel_int.proofs.Intervals.{plain}

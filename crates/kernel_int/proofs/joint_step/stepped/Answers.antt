@@ -1,6 +1,8 @@
-use Rattle.kernel_int.specs.Forms.{bits_of}
+use Rattle.std.proofs.Common.{rules, ◌≡◌, true}
+use Rattle.kernel_int.specs.ValueSteps.{is_by_value}
 use Rattle.kernel_int.proofs.JointSteps.{swap_bytes_step, unpack_step, pack_step, left_shift_step, right_shift_step, clear_step}
-use Rattle.kernel_int.proofs.JointSteps.{swizzle_from, swizzle_step, no_read}
+use Rattle.kernel_int.proofs.JointSteps.{swizzle_from, swizzle_step, no_read, divisors_fit, convert_step}
+use Rattle.kernel_int.proofs.JointOps.{rows_fit, rows_step, made_fit, made_step}
 use Rattle.kernel_int.proofs.joint_step.stepped.Goals as goal
 
 pub unreachable-requires : goal.unreachable-requires
@@ -14,42 +16,81 @@ joint_moved_form-requires-clause-from c =
 
 pub returns-in-SwapBytes : goal.returns-in-SwapBytes
 returns-in-SwapBytes c =
-    rw c.in-SwapBytes.is
-    (swap_bytes_step (bits_of c.args.storage) c.args.stage c.args.before.now c.joint_kept_form.result c.args.width.now c.args.next.now
-    (rw c.in-SwapBytes.is at c.requires.given) c.joint_kept_form.ensures.count)
+    λ bits stored. rw c.in-SwapBytes.is
+    (swap_bytes_step bits c.args.stage c.args.before.now c.joint_kept_form.result c.args.width.now
+    c.args.next.now (rw c.in-SwapBytes.is at c.requires.given) c.joint_kept_form.ensures.count)
 
 pub returns-in-Unpack : goal.returns-in-Unpack
 returns-in-Unpack c =
-    rw c.in-Unpack.is
-    (unpack_step (bits_of c.args.storage) c.in-Unpack.widths c.args.stage c.args.before.now c.joint_kept_form-in-Unpack.result c.args.width.now c.args.next.now
-    (rw c.in-Unpack.is at c.requires.given) c.joint_kept_form-in-Unpack.ensures.count)
+    λ bits stored. rw c.in-Unpack.is
+    (unpack_step bits c.in-Unpack.widths c.args.stage c.args.before.now c.joint_kept_form-in-Unpack.result c.args.width.now
+    c.args.next.now (rw c.in-Unpack.is at c.requires.given) c.joint_kept_form-in-Unpack.ensures.count)
 
 pub returns-in-Pack : goal.returns-in-Pack
 returns-in-Pack c =
-    rw c.in-Pack.is
-    (pack_step (bits_of c.args.storage) c.in-Pack.widths c.args.stage c.args.before.now c.joint_kept_form-in-Pack.result c.args.width.now c.args.next.now
-    (rw c.in-Pack.is at c.requires.given) c.joint_kept_form-in-Pack.ensures.count)
+    λ bits stored. rw c.in-Pack.is
+    (pack_step bits c.in-Pack.widths c.args.stage c.args.before.now c.joint_kept_form-in-Pack.result c.args.width.now
+    c.args.next.now (rw c.in-Pack.is at c.requires.given) c.joint_kept_form-in-Pack.ensures.count)
 
 pub returns-in-Clear : goal.returns-in-Clear
 returns-in-Clear c =
-    rw c.in-Clear.is
-    (clear_step (bits_of c.args.storage) c.in-Clear.values c.args.stage c.args.before.now c.joint_clear_form.result c.args.width.now c.args.next.now
-    (rw c.in-Clear.is at c.requires.given) c.joint_clear_form.ensures.count c.joint_clear_form.ensures.cleared)
+    λ bits stored. rw c.in-Clear.is
+    (clear_step bits c.in-Clear.values c.args.stage c.args.before.now c.joint_clear_form.result c.args.width.now
+    c.args.next.now (rw c.in-Clear.is at c.requires.given) c.joint_clear_form.ensures.count c.joint_clear_form.ensures.cleared)
 
 pub returns-in-LeftShift : goal.returns-in-LeftShift
 returns-in-LeftShift c =
-    rw c.in-LeftShift.is
-    (left_shift_step (bits_of c.args.storage) c.in-LeftShift.n c.args.stage c.args.before.now c.joint_kept_form-in-LeftShift.result c.args.width.now c.args.next.now
-    (rw c.in-LeftShift.is at c.requires.given) c.joint_kept_form-in-LeftShift.ensures.count)
+    λ bits stored. rw c.in-LeftShift.is
+    (left_shift_step bits c.in-LeftShift.n c.args.stage c.args.before.now c.joint_kept_form-in-LeftShift.result c.args.width.now
+    c.args.next.now (rw c.in-LeftShift.is at c.requires.given) c.joint_kept_form-in-LeftShift.ensures.count)
 
 pub returns-in-RightShift : goal.returns-in-RightShift
 returns-in-RightShift c =
-    rw c.in-RightShift.is
-    (right_shift_step (bits_of c.args.storage) c.in-RightShift.n c.args.stage c.args.before.now c.joint_kept_form-in-RightShift.result c.args.width.now c.args.next.now
-    (rw c.in-RightShift.is at c.requires.given) c.joint_kept_form-in-RightShift.ensures.count)
+    λ bits stored. rw c.in-RightShift.is
+    (right_shift_step bits c.in-RightShift.n c.args.stage c.args.before.now c.joint_kept_form-in-RightShift.result c.args.width.now
+    c.args.next.now (rw c.in-RightShift.is at c.requires.given) c.joint_kept_form-in-RightShift.ensures.count)
 
 pub returns-in-Swizzle : goal.returns-in-Swizzle
 returns-in-Swizzle c =
-    rw c.in-Swizzle.is
-    (swizzle_step (bits_of c.args.storage) c.in-Swizzle.from c.args.stage c.args.before.now c.joint_moved_form.result c.args.width.now c.args.next.now
-    (rw c.in-Swizzle.is at c.requires.given) c.joint_moved_form.ensures.count c.joint_moved_form.ensures.moved)
+    λ bits stored. rw c.in-Swizzle.is
+    (swizzle_step bits c.in-Swizzle.from c.args.stage c.args.before.now c.joint_moved_form.result c.args.width.now
+    c.args.next.now (rw c.in-Swizzle.is at c.requires.given) c.joint_moved_form.ensures.count c.joint_moved_form.ensures.moved)
+
+pub converted-requires-clause-divisors : goal.converted-requires-clause-divisors
+converted-requires-clause-divisors c = divisors_fit c.in-Convert.to c.in-Convert.expand c.args.stage c.args.before.now c.args.width.now
+    c.args.next.now (rw c.in-Convert.is at c.requires.given)
+
+pub returns-in-Convert : goal.returns-in-Convert
+returns-in-Convert c =
+    λ bits. rw c.in-Convert.is
+    (convert_step bits c.in-Convert.to c.in-Convert.expand c.args.stage c.args.before.now c.converted.result c.args.width.now
+    c.args.next.now (rw c.in-Convert.is at c.requires.given)
+    (record {
+      count = c.converted.ensures.count;
+      kept = c.converted.ensures.kept;
+      narrowed = c.converted.ensures.narrowed;
+      widened = c.converted.ensures.widened;
+    }))
+
+pub joint_rows_form-requires : goal.joint_rows_form-requires
+joint_rows_form-requires c = rows_fit c.in-Linear.rows c.args.stage c.args.before.now c.args.width.now c.args.next.now
+    c.growth.result (rw c.in-Linear.is at c.requires.given) c.growth.ensures
+
+pub returns-in-Linear : goal.returns-in-Linear
+returns-in-Linear c =
+    λ bits stored. rw c.in-Linear.is
+    (rows_step bits c.in-Linear.rows c.args.stage c.args.before.now c.joint_rows_form.result c.args.width.now c.args.next.now
+    c.growth.result (rw c.in-Linear.is at c.requires.given) c.growth.ensures c.joint_rows_form.ensures.count c.joint_rows_form.ensures.rows)
+
+pub joint_made_form-requires : goal.joint_made_form-requires
+joint_made_form-requires c =
+    let kind : is_by_value c.args.op.now ≡ true = search rules in
+    made_fit c.args.op.now c.args.stage c.args.before.now c.args.width.now c.args.next.now c.growth-in-Dither.result kind c.requires.given
+    c.growth-in-Dither.ensures
+
+pub returns-in-Dither : goal.returns-in-Dither
+returns-in-Dither c =
+    let kind : is_by_value c.args.op.now ≡ true = search rules in
+    λ bits stored. made_step bits c.args.op.now c.args.stage c.args.before.now c.joint_made_form.result c.args.width.now
+    c.args.next.now c.growth-in-Dither.result kind c.requires.given c.growth-in-Dither.ensures c.joint_made_form.ensures.count
+    c.joint_made_form.ensures.made

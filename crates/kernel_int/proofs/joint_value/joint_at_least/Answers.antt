@@ -1,5 +1,4 @@
-use Rattle.std.proofs.Common.{rules, ◌≡◌, ◌+◌, ◌*◌, ◌/◌, max, pos, arith, FitsSigned, unsigned_abs}
-use Rattle.std.specs.Int.{w128}
+use Rattle.std.proofs.Common.{rules, ◌≡◌, ◌*◌, max, pos, unsigned_abs}
 use Rattle.kernel_int.specs.Forms.{factor}
 use Rattle.kernel_int.specs.Joint.{IsAround, extent_size}
 use Rattle.kernel_int.proofs.JointValues.{maximum_made}

@@ -1,4 +1,4 @@
-use Rattle.std.proofs.Common.{◌*ℤ◌, ℤ, pos, sym, ap, ◌∙◌, arith, subst, FitsSigned, to_z, of_z}
+use Rattle.std.proofs.Common.{◌*ℤ◌, pos, sym, ap, ◌∙◌, arith, subst, FitsSigned, to_z, of_z}
 use Rattle.std.specs.Int.{w128}
 use Rattle.kernel_int.proofs.Intervals.{plain}
 use Rattle.kernel_int.proofs.JointValues.{small_fits, times_plain, times_fits}
