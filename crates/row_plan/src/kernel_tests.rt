@@ -18,7 +18,11 @@ use std::test::Fail;
 
 // Name, matrix and range of both sides, and the dither. Their lists have every operation, and their
 // kernels whole numbers of 8, 16 and 32 bits, and numerators of 32, 64 and 128.
-type Conversion = ((&'static str, &'static str, Range), (&'static str, &'static str, Range), u8);
+type Conversion = (
+    (&'static str, &'static str, Range),
+    (&'static str, &'static str, Range),
+    u8,
+);
 
 const CONVERSIONS: [Conversion; 12] = [
     (
@@ -190,9 +194,11 @@ fn agrees(alloc: Global, pair: &Pair, width: u32) -> Result<bool, AllocError>
     let mut converted = vec![in alloc; 0xaa; size]?;
     let mut wanted = vec![in alloc; 0x55; size]?;
     plan.convert_rows(5, width, 2, &input, &mut converted);
-    Ok(store_row(&list, pair, &input, width, 0, &mut wanted)
-        && store_row(&list, pair, &input, width, 1, &mut wanted)
-        && converted == wanted)
+    Ok(
+        store_row(&list, pair, &input, width, 0, &mut wanted)
+            && store_row(&list, pair, &input, width, 1, &mut wanted)
+            && converted == wanted,
+    )
 }
 
 // The same in rows of one pixel, and of a block, less and more.
@@ -211,7 +217,11 @@ fn agrees_in_all_widths(alloc: Global, pair: &Pair) -> Result<bool, AllocError>
 fn kernels_agree_with_the_evaluation(rt: HostRuntime) -> Result<(), Fail> {
     for conversion in &CONVERSIONS {
         let pair = pair_of(conversion).ok_or("a pair")?;
-        assert!(rt; agrees_in_all_widths(rt.alloc(), &pair)?, "{:?}", conversion.1);
+        assert!(rt;
+            agrees_in_all_widths(rt.alloc(), &pair)?,
+            "{:?}",
+            conversion.1
+        );
     }
     Ok(())
 }
