@@ -53,11 +53,11 @@ typed_before ops k typed some within =
 -- an operation with one behind it is no Write
 pub no_write : (ops : List Op) (k : ℕ) → are_typed Start ops ≡ true → k + 1 < length ops → is_write (op_at ops k) ≡ false
 no_write ops k typed within = (elim (is_write (op_at ops k)) as (λ t. is_write (op_at ops k) ≡ t → is_write (op_at ops k) ≡ false) [
-      | true ↦ λ w. absurd (nothing_behind (stage_before ops k) (op_at ops k) (op_at ops (k + 1)) w
-        (subst (λ s. may_follow s (op_at ops (k + 1)) ≡ true) (stage_more ops k (omega (arith, within)))
-        (follows_at ops (k + 1) typed within)))
-      | false ↦ λ w. w
-    ]) refl
+  | true ↦ λ w. absurd (nothing_behind (stage_before ops k) (op_at ops k) (op_at ops (k + 1)) w
+      (subst (λ s. may_follow s (op_at ops (k + 1)) ≡ true) (stage_more ops k (omega (arith, within)))
+      (follows_at ops (k + 1) typed within)))
+  | false ↦ λ w. w
+]) refl
 
 -- what is read is whole numbers
 pub joint_first : (ops : List Op) (form : Form) (width : Width) → are_typed Start ops ≡ true → 0 < length ops → form.count ≡ 4

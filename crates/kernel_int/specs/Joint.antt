@@ -5,7 +5,8 @@ use Rattle.op_list.specs.declared.types.Stage.{Stage}
 use Rattle.std.specs.Int.{w128}
 use Rattle.frac_math.specs.Fraction.{ℚ}
 use Rattle.op_list.specs.declared.op.Op.{Op}
-use Rattle.op_list.specs.declared.op.Op.TheVariants.{Dither, Scale, Min, Max}
+use Rattle.op_list.specs.declared.op.Op.TheVariants.{Read, Write, SwapBytes, Unpack, Pack, Clear, LeftShift, RightShift, Swizzle}
+use Rattle.op_list.specs.declared.op.Op.TheVariants.{Convert, Dither, Linear, Scale, Min, Max}
 use Rattle.op_list.specs.Values.{entry, fraction_in}
 use Rattle.op_list.specs.Types.{is_rational}
 use Rattle.op_list.specs.Typing.{are_typed, may_follow, are_good, stage_after}
@@ -55,14 +56,36 @@ pub record HasWidth (extent : Extent) (d size : ℕ) : Type 0 where
 abbrev pub made_denominator : Op → Extent → ℕ → ℕ → ℕ
 made_denominator (Scale by) old e d = unsigned_abs old.denominator * by.denominator
 made_denominator (Dither k) old e d = d
-made_denominator op old e d = unsigned_abs old.denominator * e
+made_denominator (Read elem planes palette) old e d = unsigned_abs old.denominator * e
+made_denominator (Write elem planes) old e d = unsigned_abs old.denominator * e
+made_denominator SwapBytes old e d = unsigned_abs old.denominator * e
+made_denominator (Unpack widths) old e d = unsigned_abs old.denominator * e
+made_denominator (Pack widths) old e d = unsigned_abs old.denominator * e
+made_denominator (Clear entries) old e d = unsigned_abs old.denominator * e
+made_denominator (LeftShift n) old e d = unsigned_abs old.denominator * e
+made_denominator (RightShift n) old e d = unsigned_abs old.denominator * e
+made_denominator (Swizzle from) old e d = unsigned_abs old.denominator * e
+made_denominator (Convert to expand) old e d = unsigned_abs old.denominator * e
+made_denominator (Linear rows) old e d = unsigned_abs old.denominator * e
+made_denominator (Min limits) old e d = unsigned_abs old.denominator * e
+made_denominator (Max limits) old e d = unsigned_abs old.denominator * e
 
 abbrev pub made_size : Op → ℕ → Extent → ℕ → ℕ → ℕ
 made_size (Scale by) v old e d = extent_size old * unsigned_abs by.numerator
 made_size (Min limits) v old e d = limited_size e (unsigned_abs old.denominator) (entry limits v) (extent_size old)
 made_size (Max limits) v old e d = limited_size e (unsigned_abs old.denominator) (entry limits v) (extent_size old)
 made_size (Dither k) v old e d = extent_size old * (d / unsigned_abs old.denominator) + d
-made_size op v old e d = 0
+made_size (Read elem planes palette) v old e d = 0
+made_size (Write elem planes) v old e d = 0
+made_size SwapBytes v old e d = 0
+made_size (Unpack widths) v old e d = 0
+made_size (Pack widths) v old e d = 0
+made_size (Clear entries) v old e d = 0
+made_size (LeftShift n) v old e d = 0
+made_size (RightShift n) v old e d = 0
+made_size (Swizzle from) v old e d = 0
+made_size (Convert to expand) v old e d = 0
+made_size (Linear rows) v old e d = 0
 
 abbrev pub IsLimit : ℕ → Option ℚ → Type 0
 IsLimit e limit = (0 < e) × (e < 2 ^ 126) × IfSome limit (λ x. e / x.denominator * x.denominator ≡ e)
@@ -74,7 +97,18 @@ abbrev pub HasFactors : Op → ℕ → Extent → ℕ → ℕ → Type 0
 HasFactors (Min limits) v old e d = IsLimit e (entry limits v)
 HasFactors (Max limits) v old e d = IsLimit e (entry limits v)
 HasFactors (Dither k) v old e d = (0 < d) × (k ≤ 4) × IsMultiple d (unsigned_abs old.denominator) × IsMultiple d (2 * 4 ^ k)
-HasFactors op v old e d = 0 ≤ 0
+HasFactors (Read elem planes palette) v old e d = 0 ≤ 0
+HasFactors (Write elem planes) v old e d = 0 ≤ 0
+HasFactors SwapBytes v old e d = 0 ≤ 0
+HasFactors (Unpack widths) v old e d = 0 ≤ 0
+HasFactors (Pack widths) v old e d = 0 ≤ 0
+HasFactors (Clear entries) v old e d = 0 ≤ 0
+HasFactors (LeftShift n) v old e d = 0 ≤ 0
+HasFactors (RightShift n) v old e d = 0 ≤ 0
+HasFactors (Swizzle from) v old e d = 0 ≤ 0
+HasFactors (Convert to expand) v old e d = 0 ≤ 0
+HasFactors (Linear rows) v old e d = 0 ≤ 0
+HasFactors (Scale by) v old e d = 0 ≤ 0
 
 -- all that such an operation works out for value v is below 2^126
 pub record MadeFits (op : Op) (v : ℕ) (old : Extent) (e d : ℕ) : Type 0 where

@@ -4,7 +4,6 @@ ghost use Rattle.op_list.specs.Typing.{IsOpList, ends_with_write, is_write};
 ghost use Rattle.op_range.specs.Width.{width};
 ghost use Rattle.kernel_int.specs.Forms.{AreStored, bits_of, planes_of};
 
-use crate::counts::total;
 use crate::form::{NumberWidth, Storage};
 use crate::joint_forms::joint_forms;
 use crate::kernel::RowKernel;
@@ -12,7 +11,7 @@ use crate::needed::counts_of;
 use crate::own_forms::forms_of;
 use crate::storage_of::storage_of;
 use frac_math::{Frac, OutOfMemory};
-use op_list::{Op, OpList};
+use op_list::{Op, OpList, total};
 use std::alloc::Global;
 
 // The operations, one after the other.
@@ -63,7 +62,7 @@ fn written(op: &Op) -> usize
     ensures { result ≡ sum (planes_of op.now) }
 {
     match op {
-        Op::Write { planes, .. } => total(planes),
+        Op::Write { planes, .. } => total(planes) as usize,
         _ => unreachable!(),
     }
 }

@@ -16,11 +16,7 @@ use std::alloc::Global;
 
 /// The forms after the operations of a list that fits, at 128 bits. The last step is given all four
 /// values.
-pub fn joint_forms(
-    alloc: Global,
-    ops: &[Op],
-    storage: Storage,
-) -> Result<Vec<Form>, OutOfMemory>
+pub fn joint_forms(alloc: Global, ops: &[Op], storage: Storage) -> Result<Vec<Form>, OutOfMemory>
     requires sound { IsOpList ops.now }
     requires some { 2 ≤ length ops.now }
     requires stored { AreStored ops.now (bits_of storage) }

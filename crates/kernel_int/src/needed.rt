@@ -1,9 +1,8 @@
 // How many values of a pixel are wanted on the way through a list.
 ghost use Rattle.std.specs.Prelude.{◌≤◌, length};
 
-use crate::counts::total;
 use frac_math::Frac;
-use op_list::Op;
+use op_list::{Op, total};
 
 // The values that an operation needs, where so many are wanted after it.
 fn needed(op: &Op, count: usize) -> usize {
@@ -50,7 +49,7 @@ pub fn counts_of(ops: &[Op]) -> [usize; 24]
 {
     let mut counts = [4; 24];
     let mut count = match ops.last() {
-        Some(Op::Write { planes, .. }) => total(planes),
+        Some(Op::Write { planes, .. }) => total(planes) as usize,
         _ => 4,
     };
     for (k, op) in ops.iter().enumerate().rev() {

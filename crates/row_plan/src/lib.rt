@@ -6,6 +6,8 @@
 #![tactic(auto)]
 
 mod job;
+#[cfg(test)]
+mod kernel_tests;
 pub mod laws;
 mod making;
 mod plans;

@@ -20,10 +20,8 @@ pub struct Plan {
     pub(crate) text: String,
     pub ghost valid: { IsValidPair pair } by { Prim.hlevel props },
     pub ghost plain: { pair.to.desc.palette ≡ false },
-    pub ghost runs: { kernel ≡ normal (recipe pair) }
-        by { Coded-set kernel-code kernel (normal (recipe pair)) },
-    pub ghost shown: { string_bytes text ≡ text_of (normal (recipe pair)) }
-        by { Prim.hlevel props },
+    pub ghost runs: { kernel ≡ normal (recipe pair) } by { Coded-set kernel-code kernel (normal (recipe pair)) },
+    pub ghost shown: { string_bytes text ≡ text_of (normal (recipe pair)) } by { Prim.hlevel props },
 }
 
 impl Plan {

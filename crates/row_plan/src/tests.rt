@@ -1,6 +1,6 @@
 // Slices of rows that are converted, by the reference in exact fractions.
 ghost use Rattle.std.specs.Prelude.{◌≤◌, IfSome};
-ghost use Rattle.row_plan.specs.Evaluated.{IsTableSide};
+ghost use Rattle.row_plan.specs.Evaluated.{IsPlannable, IsTableSide};
 
 use crate::plan;
 use colour_matrix::{Range, named};
@@ -22,7 +22,8 @@ struct Case<'a> {
     output: &'a [u8],
 }
 
-fn side_of(name: &str, matrix: &str, range: Range) -> Option<Side>
+// A side of the table.
+pub fn side_of(name: &str, matrix: &str, range: Range) -> Option<Side>
     ensures { IfSome result IsTableSide }
 {
     let Ok(id) = find(name) else {
@@ -34,6 +35,19 @@ fn side_of(name: &str, matrix: &str, range: Range) -> Option<Side>
         matrix,
         range,
     })
+}
+
+// The pair of two sides of the table.
+pub fn pair_with(from: Side, to: Side, dither: u8) -> Option<Pair>
+    requires from { IsTableSide from }
+    requires to { IsTableSide to }
+    ensures { IfSome result IsPlannable }
+{
+    if dither > 4 {
+        None
+    } else {
+        Some(Pair { from, to, dither })
+    }
 }
 
 // The target rows; none where the case is no conversion of a slice.
@@ -49,10 +63,12 @@ fn converted(
     requires to { IsTableSide to }
 {
     let (first, width, rows) = slice;
-    if dither > 4 || width > 16384 || rows > 16384 || first > 4294967295 - rows {
+    if width > 16384 || rows > 16384 || first > 4294967295 - rows {
         return Ok(None);
     }
-    let pair = Pair { from, to, dither };
+    let Some(pair) = pair_with(from, to, dither) else {
+        return Ok(None);
+    };
     let Ok(plan) = plan(alloc, &pair, 0) else {
         return Ok(None);
     };
@@ -146,10 +162,10 @@ fn has_text(alloc: Global, from: Side, to: Side, dither: u8, text: &str) -> bool
     requires from { IsTableSide from }
     requires to { IsTableSide to }
 {
-    if dither > 4 {
+    let Some(pair) = pair_with(from, to, dither) else {
         return false;
-    }
-    match plan(alloc, &Pair { from, to, dither }, 7) {
+    };
+    match plan(alloc, &pair, 7) {
         Ok(plan) => plan.stamp() == 7 && plan.text() == text,
         Err(_) => false,
     }
