@@ -7,11 +7,8 @@ use crate::gate::OpenGate;
 use crate::sides::side_of;
 use pix_io::{MemSink, MemSource};
 use pix_meaning::{Pair, Side};
-use row_plan::{SliceJob, plan};
-use slice_claim::Held;
+use row_plan::plan;
 use std::alloc::AllocError;
-use std::sync::atomic::Ordering::SeqCst;
-use std::sync::atomic::{AtomicBool, AtomicU64};
 use std::test::Fail;
 
 // A frame of a width and a height, in slices of so many rows, for so many workers.
@@ -25,13 +22,12 @@ struct Shape {
 
 // How the frame was read that the input begins with, and what was written of it; nothing where
 // there is no such conversion.
-fn slices_converted<R: Threads + Sync, G: Gate>(
+fn slices_converted<R: Threads + Sync>(
     rt: &R,
     alloc: Global,
     from: Side,
     to: Side,
     shape: Shape,
-    gate: &G,
     input: &[u8],
 ) -> Result<Option<(Got, Vec<u8>)>, AllocError>
     requires from { IsTableSide from }
@@ -71,7 +67,7 @@ fn slices_converted<R: Threads + Sync, G: Gate>(
     let Ok(got) = frame.read(&mut source) else {
         return Ok(None);
     };
-    let Ok(frame) = frame.convert(rt, alloc, &plan, workers, gate) else {
+    let Ok(frame) = frame.convert(rt, alloc, &plan, workers, &OpenGate) else {
         return Ok(None);
     };
     let Ok(()) = frame.write(&mut sink) else {
@@ -93,7 +89,7 @@ fn converts_with_every_number_of_workers(rt: HostRuntime) -> Result<(), Fail> {
             each,
             workers,
         };
-        let got = slices_converted(&rt, rt.alloc(), from, to, shape, &OpenGate, &input)?;
+        let got = slices_converted(&rt, rt.alloc(), from, to, shape, &input)?;
         let (read, bytes) = got.ok_or("a frame")?;
         assert_eq!(rt; read, Got::Whole, "{each} {workers}");
         assert_eq!(rt; bytes.as_slice(), output.as_slice(), "{each} {workers}");
@@ -116,7 +112,7 @@ fn gives_each_slice_the_palette(rt: HostRuntime) -> Result<(), Fail> {
     };
     for cut in [0, 1, 2, 3, 4, 1026, 1027] {
         let part = input.get(..cut).ok_or("a front")?;
-        let got = slices_converted(&rt, rt.alloc(), from, to, shape, &OpenGate, part)?;
+        let got = slices_converted(&rt, rt.alloc(), from, to, shape, part)?;
         let (read, bytes) = got.ok_or("a frame")?;
         let expected = match cut {
             0 => Got::End,
@@ -145,7 +141,7 @@ fn cuts_planes_at_each_byte(rt: HostRuntime) -> Result<(), Fail> {
     };
     for cut in 0..10 {
         let part = &input[..cut];
-        let got = slices_converted(&rt, rt.alloc(), from, to, shape, &OpenGate, part)?;
+        let got = slices_converted(&rt, rt.alloc(), from, to, shape, part)?;
         let (read, bytes) = got.ok_or("a frame")?;
         let expected = match cut {
             0 => Got::End,
@@ -157,77 +153,5 @@ fn cuts_planes_at_each_byte(rt: HostRuntime) -> Result<(), Fail> {
             assert_eq!(rt; bytes.as_slice(), [7, 1, 4, 8, 2, 5, 9, 3, 6].as_slice());
         }
     }
-    Ok(())
-}
-
-const MOST_TURNS: u64 = 200_000_000;
-
-// It holds the i-th pass of slice 0 until i passes of slice 1 have come, and gives up after many
-// turns.
-#[derive(Drop)]
-struct Turnstile {
-    first: AtomicU64,
-    second: AtomicU64,
-    others: AtomicU64,
-    gave_up: AtomicBool,
-}
-
-impl Turnstile {
-    fn new() -> Turnstile {
-        Turnstile {
-            first: AtomicU64::new(0),
-            second: AtomicU64::new(0),
-            others: AtomicU64::new(0),
-            gave_up: AtomicBool::new(false),
-        }
-    }
-
-    fn hold(&self, passes: u64) {
-        for _ in 0..MOST_TURNS {
-            if self.gave_up.load(SeqCst) || self.second.load(SeqCst) >= passes {
-                return;
-            }
-        }
-        self.gave_up.store(true, SeqCst);
-    }
-}
-
-impl Gate for Turnstile {
-    fn pass(&self, held: &Held<SliceJob>) {
-        match held.number() {
-            0 => self.hold(self.first.fetch_add(1, SeqCst).wrapping_add(1)),
-            1 => {
-                self.second.fetch_add(1, SeqCst);
-            }
-            _ => {
-                self.others.fetch_add(1, SeqCst);
-            }
-        }
-    }
-}
-
-#[test]
-fn two_workers_share_each_frame(rt: HostRuntime) -> Result<(), Fail> {
-    let gray = side_of("gray", "bt601").ok_or("gray")?;
-    let shape = Shape {
-        width: 2,
-        height: 2,
-        each: 1,
-        workers: 2,
-    };
-    let gate = Turnstile::new();
-    for number in 0..300u32 {
-        let input = [(number % 256) as u8, 1, 2, 3];
-        let got = slices_converted(&rt, rt.alloc(), gray, gray, shape, &gate, &input)?;
-        let (_, bytes) = got.ok_or("a frame")?;
-        assert_eq!(rt; bytes.as_slice(), input.as_slice(), "{number}");
-    }
-    assert!(rt; !gate.gave_up.load(SeqCst));
-    let passes = (
-        gate.first.load(SeqCst),
-        gate.second.load(SeqCst),
-        gate.others.load(SeqCst),
-    );
-    assert_eq!(rt; passes, (300, 300, 0));
     Ok(())
 }
