@@ -21,4 +21,6 @@ pub enum Refusal {
     OutputLength,
     /// An allocation was refused.
     OutOfMemory,
+    /// There is no room for a name and the zero byte behind it.
+    NameRoom,
 }
