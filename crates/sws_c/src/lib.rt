@@ -9,3 +9,5 @@ mod owner;
 mod plans;
 mod rows;
 mod shared_plan;
+#[cfg(test)]
+mod tests;
