@@ -1,0 +1,235 @@
+/* Random calls, right and wrong: calls COUNT [SEED]. Each answer is compared with one that is computed here, the output with what
+ * it was where a call is refused, and a plan with a conversion that keeps nothing. Allocations are refused at random where
+ * it is built with -DSWS_REFUSES, as is heap.c. */
+#include "sws.h"
+#include <stdio.h>
+#include <stdlib.h>
+
+#ifdef SWS_REFUSES
+extern _Thread_local unsigned long sws_refused, sws_asked;
+#define REFUSE_AT(number) (sws_asked = 0, sws_refused = (number))
+#else
+#define REFUSE_AT(number) ((void)0)
+#endif
+
+#define MUST(fact)                                                                  \
+    do {                                                                            \
+        if (!(fact)) {                                                              \
+            printf("calls.c:%d: call %lu: not %s\n", __LINE__, call, #fact);        \
+            exit(1);                                                                \
+        }                                                                           \
+    } while (0)
+
+static const char *const matrices[] = {"bt601", "bt709", "bt2020", "smpte240m", "fcc"};
+static uint64_t state;
+static unsigned long call, seen[SWS_CLOSED + 1];
+static uint32_t formats, pal8;
+
+/* One call: what it is asked, and the bytes that it is handed. */
+struct asked {
+    struct sws_conversion conversion;
+    uint32_t first, width, rows;
+    size_t input_length, output_length;
+    uint8_t *input, *output, *before, *again;
+};
+
+/* a number below n, or any where n is 0 */
+static uint32_t below(uint32_t n)
+{
+    state ^= state << 13, state ^= state >> 7, state ^= state << 17;
+    return n ? (uint32_t)((state >> 16) % n) : (uint32_t)(state >> 16);
+}
+
+static void test_names(void)
+{
+    uint32_t found = 77, number = below(formats + 3), length = below(24);
+    size_t room = below(17);
+    uint8_t *bytes = malloc(length + 1);
+    char *name = malloc(room + 1);
+    for (uint32_t i = 0; i < length; i++)
+        bytes[i] = below(4) ? "yuvrgbap0123456789leb_"[below(22)] : (uint8_t)below(256);
+    uint32_t status = sws_format_find(bytes, length, &found);
+    MUST(status ? found == 77 && status >= SWS_UNKNOWN_NAME && status <= SWS_UNSUPPORTED : found < formats);
+    memset(name, 7, room + 1);
+    status = sws_name(number, name, room);
+    MUST(number < formats || status == SWS_FORMAT);
+    if (status)
+        MUST(status == SWS_FORMAT || status == SWS_NAME_ROOM);
+    else
+        MUST(!sws_find(name, &found) && found == number);
+    for (size_t i = status ? 0 : strlen(name) + 1; i <= room; i++)
+        MUST(name[i] == 7);
+    free(bytes);
+    free(name);
+}
+
+static void any_side(struct sws_side *side)
+{
+    side->format = below(40) ? below(formats) : below(3) ? formats + below(3) : below(0);
+    side->range = below(30) ? below(2) : below(0);
+    MUST(sws_set_matrix(side, matrices[below(5)]) == SWS_OK);
+    if (!below(20))
+        *(below(3) ? &side->q : below(2) ? &side->r : &side->b) += 1 + below(3);
+    if (!below(40))
+        side->q = below(0), side->r = below(0), side->b = below(0);
+}
+
+static int has_name(const struct sws_side *side)
+{
+    for (int i = 0; i < 5; i++) {
+        struct sws_side named = *side;
+        sws_set_matrix(&named, matrices[i]);
+        if (!memcmp(&named, side, sizeof named))
+            return 1;
+    }
+    return 0;
+}
+
+static int is_size(const struct asked *asked)
+{
+    return asked->width >= 1 && asked->width <= 16384 && asked->rows >= 1 && asked->rows <= 16384;
+}
+
+/* the length of some rows, now and then wrong by one; of large ones a short length */
+static size_t any_length(uint32_t format, const struct asked *asked)
+{
+    uint64_t length = 0;
+    uint32_t status = sws_bytes(format, asked->width, asked->rows, &length);
+    MUST(status == (format >= formats ? SWS_FORMAT : is_size(asked) ? SWS_OK : SWS_SIZE));
+    if (length > 8192)
+        length = 64;
+    return length + (below(12) ? 0 : below(2) ? 1 : -(length > 0));
+}
+
+static void any_call(struct asked *asked)
+{
+    any_side(&asked->conversion.from);
+    any_side(&asked->conversion.to);
+    asked->conversion.dither = below(20) ? below(5) : below(0);
+    asked->first = below(10) ? below(10000) : below(0);
+    asked->width = below(15) ? 1 + below(below(8) ? 9 : 140) : below(2) ? below(20000) : below(0);
+    asked->rows = below(15) ? 1 + below(5) : below(2) ? below(20000) : below(0);
+    asked->input_length = any_length(asked->conversion.from.format, asked);
+    asked->output_length = any_length(asked->conversion.to.format, asked);
+    asked->input = malloc(asked->input_length + 1);
+    asked->output = malloc(asked->output_length + 1);
+    asked->before = malloc(asked->output_length + 1);
+    asked->again = malloc(asked->output_length + 1);
+    /* of the length that is told, so that the sanitizer sees a byte too far */
+    asked->input = realloc(asked->input, asked->input_length ? asked->input_length : 1);
+    asked->output = realloc(asked->output, asked->output_length ? asked->output_length : 1);
+    for (size_t i = 0; i < asked->input_length; i++)
+        asked->input[i] = (uint8_t)(below(3) ? below(256) : below(2) ? 0 : 255);
+    for (size_t i = 0; i < asked->output_length; i++)
+        asked->again[i] = asked->before[i] = asked->output[i] = (uint8_t)below(256);
+}
+
+/* what the call has to answer, but for want of memory */
+static uint32_t wanted(const struct asked *asked)
+{
+    const struct sws_side *from = &asked->conversion.from, *to = &asked->conversion.to;
+    uint64_t length;
+    if (from->format >= formats || to->format >= formats)
+        return SWS_FORMAT;
+    if (to->format == pal8)
+        return SWS_PALETTE_TARGET;
+    if (!has_name(from) || !has_name(to))
+        return SWS_MATRIX;
+    if (from->range > 1 || to->range > 1)
+        return SWS_RANGE;
+    if (asked->conversion.dither > 4)
+        return SWS_DITHER;
+    if (!is_size(asked) || (uint64_t)asked->first + asked->rows > 0xffffffffu)
+        return SWS_SIZE;
+    if (sws_bytes(from->format, asked->width, asked->rows, &length) || length != asked->input_length)
+        return SWS_INPUT_LENGTH;
+    if (sws_bytes(to->format, asked->width, asked->rows, &length) || length != asked->output_length)
+        return SWS_OUTPUT_LENGTH;
+    return SWS_OK;
+}
+
+static void test_pointers(const struct asked *asked)
+{
+    const struct sws_conversion *conversion = &asked->conversion;
+    MUST(sws_convert_rows(NULL, 0, 1, 1, asked->input, 1, asked->output, 1) == SWS_NULL);
+    MUST(sws_convert_rows(conversion, 0, 1, 1, NULL, 1, asked->output, 1) == SWS_NULL);
+    MUST(sws_convert_rows(conversion, 0, 1, 1, asked->input, 1, NULL, 1) == SWS_NULL);
+    MUST(sws_convert_rows(conversion, 0, 1, 1, asked->output, 1, asked->output, 1) == SWS_OVERLAP);
+    MUST(sws_convert_rows(conversion, 0, 1, 1, asked->input, (size_t)-1, asked->output, 1) == SWS_INPUT_LENGTH);
+}
+
+static uint32_t test_convert(const struct asked *asked)
+{
+    uint32_t want = wanted(asked);
+    REFUSE_AT(below(2) ? 1 + below(12) : 0);
+    uint32_t status = sws_convert_rows(&asked->conversion, asked->first, asked->width, asked->rows, asked->input,
+                                       asked->input_length, asked->output, asked->output_length);
+    REFUSE_AT(0);
+    seen[status < SWS_CLOSED ? status : SWS_CLOSED]++;
+#ifdef SWS_REFUSES
+    MUST(status == want || (want == SWS_OK && status == SWS_MEMORY));
+#else
+    MUST(status == want);
+#endif
+    if (status)
+        MUST(!memcmp(asked->before, asked->output, asked->output_length));
+    return status;
+}
+
+static uint32_t run(struct sws_plan *plan, const struct asked *asked)
+{
+    REFUSE_AT(1); /* no memory is taken */
+    uint32_t status = sws_run(plan, asked->first, asked->width, asked->rows, asked->input, asked->input_length, asked->again,
+                              asked->output_length);
+    REFUSE_AT(0);
+    return status;
+}
+
+/* the same by a plan, which is shared, and closed in any order */
+static void test_plan(const struct asked *asked, uint32_t status)
+{
+    struct sws_plan plan = {NULL}, other = {NULL};
+    REFUSE_AT(below(2) ? 1 + below(12) : 0);
+    uint32_t made = sws_make(&asked->conversion, &plan), want = wanted(asked);
+    uint32_t shared = made ? made : sws_share(&plan, &other);
+    REFUSE_AT(0);
+    MUST(made == SWS_OK || !plan.owner);
+    MUST(made == (want < SWS_SIZE ? want : SWS_OK) || made == SWS_MEMORY);
+    MUST(shared == made || shared == SWS_MEMORY);
+    if (!shared && below(2))
+        sws_close(&plan);
+    if (!made) {
+        MUST(run(plan.owner ? &plan : &other, asked) == want);
+        if (!status)
+            MUST(!memcmp(asked->again, asked->output, asked->output_length));
+        if (want)
+            MUST(!memcmp(asked->again, asked->before, asked->output_length));
+    }
+    sws_close(&plan);
+    sws_close(&plan);
+    MUST(run(&plan, asked) == SWS_CLOSED && sws_share(&plan, &other) == SWS_CLOSED);
+    sws_close(&other);
+}
+
+int main(int argc, char **argv)
+{
+    unsigned long calls = argc > 1 ? strtoul(argv[1], NULL, 10) : 500;
+    state = 88172645463325252u + (argc > 2 ? strtoul(argv[2], NULL, 10) : 0) * 1000003u;
+    formats = sws_format_count();
+    MUST(sws_find("pal8", &pal8) == SWS_OK && sws_version() == SWS_VERSION);
+    for (call = 0; call < calls; call++) {
+        struct asked asked;
+        memset(&asked, 0, sizeof asked);
+        test_names();
+        any_call(&asked);
+        test_pointers(&asked);
+        test_plan(&asked, test_convert(&asked));
+        free(asked.input), free(asked.output), free(asked.before), free(asked.again);
+    }
+    printf("%lu calls:", calls);
+    for (uint32_t i = 0; i <= SWS_CLOSED; i++)
+        if (seen[i])
+            printf(" %lu %s;", seen[i], sws_text(i));
+    printf("\n");
+    return 0;
+}
