@@ -1,246 +1,470 @@
-/* swsconvert: a GStreamer element that converts raw video exactly, by the C library sws.
+/* swsconvert: converts raw video between formats without chroma subsampling, exactly, by the C library of sws.
  *
- * Formats are those that GStreamer and sws both know. Matrix and range come from the caps' colorimetry. */
-#include "sws.h"
+ * gst-launch-1.0 videotestsrc ! video/x-raw,format=RGB ! swsconvert ! video/x-raw,format=Y444 ! fakesink
+ */
 #include <gst/gst.h>
-#include <gst/video/gstvideofilter.h>
 #include <gst/video/video.h>
+#include <gst/video/gstvideofilter.h>
+#include <string.h>
+#include <sws.h>
+
+#include "formats.h"
+
+GST_DEBUG_CATEGORY_STATIC (sws_convert_debug);
+#define GST_CAT_DEFAULT sws_convert_debug
+
+#define LARGEST_SIDE 16384
+#define LARGEST_DITHER 4
+
+/* Rows that are packed, converted and unpacked at a time. */
+#define SLICE_ROWS 16
+
+#define SWS_TYPE_CONVERT (sws_convert_get_type ())
+G_DECLARE_FINAL_TYPE (SwsConvert, sws_convert, SWS, CONVERT, GstVideoFilter)
+
+/* One side's slice as the archive takes it: a raw frame of its rows, its planes one behind the other, rows without padding. */
+struct slice
+{
+  guint8 *bytes;
+  gsize row_bytes;              /* of all planes */
+};
+
+struct _SwsConvert
+{
+  GstVideoFilter parent;
+
+  guint dither;
+
+  /* made when the caps are known, and used for every frame */
+  struct sws_plan plan;
+  struct slice source, target;
+};
+
+enum
+{
+  PROP_0,
+  PROP_DITHER
+};
+
+G_DEFINE_TYPE (SwsConvert, sws_convert, GST_TYPE_VIDEO_FILTER)
+
+/* --- caps --- */
+
+/* What both pads take. */
+static GstCaps *
+pad_caps (void)
+{
+  GValue formats = G_VALUE_INIT, format = G_VALUE_INIT;
+  GstCaps *caps;
+  gsize i;
+
+  g_value_init (&formats, GST_TYPE_LIST);
+  g_value_init (&format, G_TYPE_STRING);
+  for (i = 0; i < G_N_ELEMENTS (shared_formats); i++) {
+    g_value_set_static_string (&format,
+        gst_video_format_to_string (shared_formats[i].format));
+    gst_value_list_append_value (&formats, &format);
+  }
+  caps = gst_caps_new_simple ("video/x-raw",
+      "width", GST_TYPE_INT_RANGE, 1, LARGEST_SIDE,
+      "height", GST_TYPE_INT_RANGE, 1, LARGEST_SIDE,
+      "framerate", GST_TYPE_FRACTION_RANGE, 0, 1, G_MAXINT, 1, NULL);
+  gst_caps_set_value (caps, "format", &formats);
+  g_value_unset (&format);
+  g_value_unset (&formats);
+  return caps;
+}
+
+/* The other pad has the same frames in any format and colorimetry. */
+static GstCaps *
+sws_convert_transform_caps (GstBaseTransform * trans,
+    GstPadDirection direction, GstCaps * caps, GstCaps * filter)
+{
+  GstCaps *other = gst_caps_new_empty (), *kept;
+  guint i;
+
+  for (i = 0; i < gst_caps_get_size (caps); i++) {
+    GstStructure *structure =
+        gst_structure_copy (gst_caps_get_structure (caps, i));
+
+    gst_structure_remove_fields (structure, "format", "colorimetry",
+        "chroma-site", NULL);
+    other = gst_caps_merge_structure_full (other, structure,
+        gst_caps_features_copy (gst_caps_get_features (caps, i)));
+  }
+  if (filter == NULL)
+    return other;
+  kept = gst_caps_intersect_full (filter, other, GST_CAPS_INTERSECT_FIRST);
+  gst_caps_unref (other);
+  return kept;
+}
+
+/* What a conversion loses: colour, then depth, then alpha, then exactness; and, least of all, what it adds. */
+static guint
+loss_of (const GstVideoFormatInfo * from, const GstVideoFormatInfo * to)
+{
+  gboolean is_gray = GST_VIDEO_FORMAT_INFO_IS_GRAY (from);
+  gboolean becomes_gray = GST_VIDEO_FORMAT_INFO_IS_GRAY (to);
+  gboolean is_rgb = GST_VIDEO_FORMAT_INFO_IS_RGB (from);
+  gboolean becomes_rgb = GST_VIDEO_FORMAT_INFO_IS_RGB (to);
+  gboolean has_alpha = GST_VIDEO_FORMAT_INFO_HAS_ALPHA (from);
+  gboolean gets_alpha = GST_VIDEO_FORMAT_INFO_HAS_ALPHA (to);
+  /* the second component: RGB16 has a bit more of green */
+  guint depth = GST_VIDEO_FORMAT_INFO_DEPTH (from, is_gray ? 0 : 1);
+  guint gets_depth = GST_VIDEO_FORMAT_INFO_DEPTH (to, becomes_gray ? 0 : 1);
+
+  return (!is_gray && becomes_gray) * 4096 +
+      (gets_depth < depth ? (depth - gets_depth) * 128 : 0) +
+      (has_alpha && !gets_alpha) * 64 + (is_rgb != becomes_rgb) * 32 +
+      (is_gray && !becomes_gray) * 16 + (!has_alpha && gets_alpha) * 8 +
+      (gets_depth > depth ? (gets_depth - depth) / 2 : 0);
+}
+
+/* Compares the format of a value with the best one so far, and keeps the better of the two. */
+static void
+keep_better (const GstVideoFormatInfo * from, const GValue * value,
+    const GstVideoFormatInfo ** best)
+{
+  const GstVideoFormatInfo *to;
+
+  if (!G_VALUE_HOLDS_STRING (value))
+    return;
+  to = gst_video_format_get_info (gst_video_format_from_string
+      (g_value_get_string (value)));
+  if (to != NULL && shared_name (GST_VIDEO_FORMAT_INFO_FORMAT (to)) != NULL &&
+      (*best == NULL || loss_of (from, to) < loss_of (from, *best)))
+    *best = to;
+}
+
+/* Sets the format that loses least. */
+static void
+choose_format (const GstVideoInfo * from, GstStructure * to)
+{
+  const GValue *formats = gst_structure_get_value (to, "format");
+  const GstVideoFormatInfo *best = NULL;
+  guint i;
+
+  if (formats == NULL)
+    return;
+  if (GST_VALUE_HOLDS_LIST (formats)) {
+    for (i = 0; i < gst_value_list_get_size (formats); i++)
+      keep_better (from->finfo, gst_value_list_get_value (formats, i), &best);
+  } else {
+    keep_better (from->finfo, formats, &best);
+  }
+  if (best != NULL)
+    gst_structure_set (to, "format", G_TYPE_STRING,
+        GST_VIDEO_FORMAT_INFO_NAME (best), NULL);
+}
+
+/* Sets the colorimetry where the caps leave it open: what the conversion does not change (transfer and primaries) is the other
+ * side's, and so are the matrix between two sides that are not RGB, and the range between two of one kind. */
+static GstCaps *
+choose_colorimetry (const GstVideoInfo * from, GstCaps * to)
+{
+  GstVideoColorimetry chosen;
+  GstVideoInfo info;
+  gchar *text;
+
+  if (gst_structure_has_field (gst_caps_get_structure (to, 0), "colorimetry")
+      || !gst_video_info_from_caps (&info, to))
+    return to;
+  chosen = info.colorimetry;
+  chosen.transfer = from->colorimetry.transfer;
+  chosen.primaries = from->colorimetry.primaries;
+  if (!GST_VIDEO_INFO_IS_RGB (&info) && !GST_VIDEO_INFO_IS_RGB (from))
+    chosen.matrix = from->colorimetry.matrix;
+  if (GST_VIDEO_INFO_IS_RGB (&info) == GST_VIDEO_INFO_IS_RGB (from) &&
+      GST_VIDEO_INFO_IS_GRAY (&info) == GST_VIDEO_INFO_IS_GRAY (from))
+    chosen.range = from->colorimetry.range;
+  text = gst_video_colorimetry_to_string (&chosen);
+  if (text != NULL) {
+    to = gst_caps_make_writable (to);
+    gst_caps_set_simple (to, "colorimetry", G_TYPE_STRING, text, NULL);
+    g_free (text);
+  }
+  return to;
+}
+
+/* The same caps where they are possible, so that frames pass untouched; else the format that loses least. */
+static GstCaps *
+sws_convert_fixate_caps (GstBaseTransform * trans, GstPadDirection direction,
+    GstCaps * caps, GstCaps * other)
+{
+  GstVideoInfo from;
+
+  if (gst_caps_can_intersect (caps, other)) {
+    GstCaps *same = gst_caps_intersect (caps, other);
+
+    gst_caps_unref (other);
+    return gst_caps_fixate (same);
+  }
+  if (!gst_video_info_from_caps (&from, caps))
+    return gst_caps_fixate (other);
+  other = gst_caps_make_writable (gst_caps_truncate (other));
+  choose_format (&from, gst_caps_get_structure (other, 0));
+  return choose_colorimetry (&from, gst_caps_fixate (other));
+}
+
+/* --- the plan of two caps --- */
+
+static void
+release (SwsConvert * self)
+{
+  sws_close (&self->plan);
+  g_clear_pointer (&self->source.bytes, g_free);
+  g_clear_pointer (&self->target.bytes, g_free);
+}
+
+/* The name of a matrix; bt601, the default of sws, where it is not known. */
+static const gchar *
+matrix_name (GstVideoColorMatrix matrix)
+{
+  switch (matrix) {
+    case GST_VIDEO_COLOR_MATRIX_FCC:
+      return "fcc";
+    case GST_VIDEO_COLOR_MATRIX_BT709:
+      return "bt709";
+    case GST_VIDEO_COLOR_MATRIX_SMPTE240M:
+      return "smpte240m";
+    case GST_VIDEO_COLOR_MATRIX_BT2020:
+      return "bt2020";
+    default:
+      return "bt601";
+  }
+}
+
+/* The range; the default of sws where it is not known: limited with chroma, else full. */
+static guint32
+range_of (const GstVideoInfo * info)
+{
+  switch (info->colorimetry.range) {
+    case GST_VIDEO_COLOR_RANGE_0_255:
+      return SWS_FULL;
+    case GST_VIDEO_COLOR_RANGE_16_235:
+      return SWS_LIMITED;
+    default:
+      return GST_VIDEO_INFO_IS_YUV (info) ? SWS_LIMITED : SWS_FULL;
+  }
+}
+
+/* Sets matrix and range of a side. There is no RGB of limited range in sws. */
+static gboolean
+set_side (SwsConvert * self, struct sws_side *side, const GstVideoInfo * info)
+{
+  side->range = range_of (info);
+  if (GST_VIDEO_INFO_IS_RGB (info) && side->range == SWS_LIMITED) {
+    GST_ELEMENT_ERROR (self, STREAM, FORMAT, (NULL),
+        ("RGB of limited range is not converted"));
+    return FALSE;
+  }
+  return sws_set_matrix (side, matrix_name (info->colorimetry.matrix)) ==
+      SWS_OK;
+}
+
+/* Makes the room of a side's slice. False where the archive has rows of another length than GStreamer. */
+static gboolean
+make_slice (struct slice *slice, guint32 format, const GstVideoInfo * info)
+{
+  guint64 row_bytes;
+  guint plane;
+
+  slice->row_bytes = 0;
+  for (plane = 0; plane < GST_VIDEO_INFO_N_PLANES (info); plane++)
+    slice->row_bytes += shared_row_bytes (info, plane);
+  if (sws_bytes (format, GST_VIDEO_INFO_WIDTH (info), 1, &row_bytes) != SWS_OK
+      || row_bytes != slice->row_bytes)
+    return FALSE;
+  slice->bytes = g_try_malloc (slice->row_bytes * SLICE_ROWS);
+  return slice->bytes != NULL;
+}
+
+static gboolean
+sws_convert_set_info (GstVideoFilter * filter, GstCaps * in_caps,
+    GstVideoInfo * in, GstCaps * out_caps, GstVideoInfo * out)
+{
+  SwsConvert *self = SWS_CONVERT (filter);
+  struct sws_conversion conversion;
+  guint32 status;
+
+  release (self);
+  if (gst_caps_is_equal (in_caps, out_caps))
+    return TRUE;                /* frames pass untouched */
+
+  status = sws_open (&conversion, shared_name (GST_VIDEO_INFO_FORMAT (in)),
+      shared_name (GST_VIDEO_INFO_FORMAT (out)));
+  if (status == SWS_OK) {
+    if (!set_side (self, &conversion.from, in) ||
+        !set_side (self, &conversion.to, out))
+      return FALSE;
+    conversion.dither = self->dither;
+    status = sws_make (&conversion, &self->plan);
+  }
+  if (status != SWS_OK) {
+    GST_ELEMENT_ERROR (self, LIBRARY, SETTINGS, (NULL),
+        ("no plan: %s", sws_text (status)));
+    return FALSE;
+  }
+  if (!make_slice (&self->source, conversion.from.format, in) ||
+      !make_slice (&self->target, conversion.to.format, out)) {
+    GST_ELEMENT_ERROR (self, RESOURCE, NO_SPACE_LEFT, (NULL),
+        ("no room for slices of %d rows", SLICE_ROWS));
+    return FALSE;
+  }
+  return TRUE;
+}
+
+static gboolean
+sws_convert_stop (GstBaseTransform * trans)
+{
+  release (SWS_CONVERT (trans));
+  return TRUE;
+}
+
+/* --- frames --- */
+
+/* Copies some rows of a frame's planes into a slice, or from it. Rows stand `stride` bytes apart in the frame and without a gap
+ * in the slice: the copy goes away with an export of the archive that takes planes with strides. */
+static void
+copy_rows (GstVideoFrame * frame, guint first, guint rows, guint8 * packed,
+    gboolean into_frame)
+{
+  guint plane, row;
+
+  for (plane = 0; plane < GST_VIDEO_FRAME_N_PLANES (frame); plane++) {
+    gsize length = shared_row_bytes (&frame->info, plane);
+    gssize stride = GST_VIDEO_FRAME_PLANE_STRIDE (frame, plane);
+    guint8 *at = GST_VIDEO_FRAME_PLANE_DATA (frame, plane);
+
+    at += stride * (gssize) first;
+    for (row = 0; row < rows; row++) {
+      memcpy (into_frame ? at : packed, into_frame ? packed : at, length);
+      at += stride;
+      packed += length;
+    }
+  }
+}
+
+static GstFlowReturn
+sws_convert_transform_frame (GstVideoFilter * filter, GstVideoFrame * in,
+    GstVideoFrame * out)
+{
+  SwsConvert *self = SWS_CONVERT (filter);
+  guint width = GST_VIDEO_FRAME_WIDTH (in);
+  guint height = GST_VIDEO_FRAME_HEIGHT (in);
+  guint first, rows;
+
+  for (first = 0; first < height; first += rows) {
+    guint32 status;
+
+    rows = MIN (SLICE_ROWS, height - first);
+    copy_rows (in, first, rows, self->source.bytes, FALSE);
+    status = sws_run (&self->plan, first, width, rows,
+        self->source.bytes, self->source.row_bytes * rows,
+        self->target.bytes, self->target.row_bytes * rows);
+    if (status != SWS_OK) {
+      GST_ELEMENT_ERROR (self, LIBRARY, FAILED, (NULL),
+          ("rows %u to %u: %s", first, first + rows - 1, sws_text (status)));
+      return GST_FLOW_ERROR;
+    }
+    copy_rows (out, first, rows, self->target.bytes, TRUE);
+  }
+  return GST_FLOW_OK;
+}
+
+/* --- the element --- */
+
+static void
+sws_convert_set_property (GObject * object, guint id, const GValue * value,
+    GParamSpec * spec)
+{
+  switch (id) {
+    case PROP_DITHER:
+      SWS_CONVERT (object)->dither = g_value_get_uint (value);
+      break;
+    default:
+      G_OBJECT_WARN_INVALID_PROPERTY_ID (object, id, spec);
+  }
+}
+
+static void
+sws_convert_get_property (GObject * object, guint id, GValue * value,
+    GParamSpec * spec)
+{
+  switch (id) {
+    case PROP_DITHER:
+      g_value_set_uint (value, SWS_CONVERT (object)->dither);
+      break;
+    default:
+      G_OBJECT_WARN_INVALID_PROPERTY_ID (object, id, spec);
+  }
+}
+
+static void
+sws_convert_finalize (GObject * object)
+{
+  release (SWS_CONVERT (object));
+  G_OBJECT_CLASS (sws_convert_parent_class)->finalize (object);
+}
+
+static void
+add_pad_template (GstElementClass * element, const gchar * name,
+    GstPadDirection direction, GstCaps * caps)
+{
+  gst_element_class_add_pad_template (element,
+      gst_pad_template_new (name, direction, GST_PAD_ALWAYS, caps));
+}
+
+static void
+sws_convert_class_init (SwsConvertClass * klass)
+{
+  GObjectClass *object = G_OBJECT_CLASS (klass);
+  GstElementClass *element = GST_ELEMENT_CLASS (klass);
+  GstBaseTransformClass *trans = GST_BASE_TRANSFORM_CLASS (klass);
+  GstVideoFilterClass *filter = GST_VIDEO_FILTER_CLASS (klass);
+  GstCaps *caps = pad_caps ();
+
+  object->set_property = sws_convert_set_property;
+  object->get_property = sws_convert_get_property;
+  object->finalize = sws_convert_finalize;
+  g_object_class_install_property (object, PROP_DITHER,
+      g_param_spec_uint ("dither", "Dither",
+          "0: rounded to the nearest, half up; "
+          "1 to 4: ordered dither over squares of 2^dither pixels",
+          0, LARGEST_DITHER, 0,
+          G_PARAM_READWRITE | G_PARAM_STATIC_STRINGS |
+          GST_PARAM_MUTABLE_READY));
+
+  add_pad_template (element, "sink", GST_PAD_SINK, caps);
+  add_pad_template (element, "src", GST_PAD_SRC, caps);
+  gst_caps_unref (caps);
+  gst_element_class_set_static_metadata (element, "Exact format converter",
+      "Filter/Converter/Video",
+      "Converts raw video without chroma subsampling exactly", "sws");
+
+  trans->passthrough_on_same_caps = TRUE;
+  trans->transform_caps = sws_convert_transform_caps;
+  trans->fixate_caps = sws_convert_fixate_caps;
+  trans->stop = sws_convert_stop;
+  filter->set_info = sws_convert_set_info;
+  filter->transform_frame = sws_convert_transform_frame;
+}
+
+static void
+sws_convert_init (SwsConvert * self)
+{
+}
+
+static gboolean
+plugin_init (GstPlugin * plugin)
+{
+  GST_DEBUG_CATEGORY_INIT (sws_convert_debug, "swsconvert", 0,
+      "exact format converter");
+  return gst_element_register (plugin, "swsconvert", GST_RANK_NONE,
+      SWS_TYPE_CONVERT);
+}
 
 #define PACKAGE "sws"
-
-/* A format under both names. */
-struct known {
-    GstVideoFormat format;
-    const char *name;
-};
-
-static const struct known known[] = {
-    {GST_VIDEO_FORMAT_RGB, "rgb24"},
-    {GST_VIDEO_FORMAT_BGR, "bgr24"},
-    {GST_VIDEO_FORMAT_RGBA, "rgba"},
-    {GST_VIDEO_FORMAT_BGRA, "bgra"},
-    {GST_VIDEO_FORMAT_ARGB, "argb"},
-    {GST_VIDEO_FORMAT_ABGR, "abgr"},
-    {GST_VIDEO_FORMAT_RGBx, "rgb0"},
-    {GST_VIDEO_FORMAT_BGRx, "bgr0"},
-    {GST_VIDEO_FORMAT_xRGB, "0rgb"},
-    {GST_VIDEO_FORMAT_xBGR, "0bgr"},
-    {GST_VIDEO_FORMAT_RGBA64_LE, "rgba64le"},
-    {GST_VIDEO_FORMAT_RGBA64_BE, "rgba64be"},
-    {GST_VIDEO_FORMAT_BGRA64_LE, "bgra64le"},
-    {GST_VIDEO_FORMAT_BGRA64_BE, "bgra64be"},
-    {GST_VIDEO_FORMAT_GBR, "gbrp"},
-    {GST_VIDEO_FORMAT_GBR_10LE, "gbrp10le"},
-    {GST_VIDEO_FORMAT_GBR_10BE, "gbrp10be"},
-    {GST_VIDEO_FORMAT_GBR_12LE, "gbrp12le"},
-    {GST_VIDEO_FORMAT_GBR_12BE, "gbrp12be"},
-    {GST_VIDEO_FORMAT_GBRA, "gbrap"},
-    {GST_VIDEO_FORMAT_GBRA_10LE, "gbrap10le"},
-    {GST_VIDEO_FORMAT_GBRA_10BE, "gbrap10be"},
-    {GST_VIDEO_FORMAT_GBRA_12LE, "gbrap12le"},
-    {GST_VIDEO_FORMAT_GBRA_12BE, "gbrap12be"},
-    {GST_VIDEO_FORMAT_GRAY8, "gray"},
-    {GST_VIDEO_FORMAT_GRAY16_LE, "gray16le"},
-    {GST_VIDEO_FORMAT_GRAY16_BE, "gray16be"},
-    {GST_VIDEO_FORMAT_Y444, "yuv444p"},
-    {GST_VIDEO_FORMAT_Y444_10LE, "yuv444p10le"},
-    {GST_VIDEO_FORMAT_Y444_10BE, "yuv444p10be"},
-    {GST_VIDEO_FORMAT_Y444_12LE, "yuv444p12le"},
-    {GST_VIDEO_FORMAT_Y444_12BE, "yuv444p12be"},
-    {GST_VIDEO_FORMAT_Y444_16LE, "yuv444p16le"},
-    {GST_VIDEO_FORMAT_Y444_16BE, "yuv444p16be"},
-    {GST_VIDEO_FORMAT_NV24, "nv24"},
-    {GST_VIDEO_FORMAT_AYUV, "ayuv"},
-    {GST_VIDEO_FORMAT_VUYA, "vuya"},
-};
-
-#define FORMATS                                                                                                     \
-    "{ RGB, BGR, RGBA, BGRA, ARGB, ABGR, RGBx, BGRx, xRGB, xBGR, RGBA64_LE, RGBA64_BE, BGRA64_LE, BGRA64_BE, GBR, " \
-    "GBR_10LE, GBR_10BE, GBR_12LE, GBR_12BE, GBRA, GBRA_10LE, GBRA_10BE, GBRA_12LE, GBRA_12BE, GRAY8, GRAY16_LE, "  \
-    "GRAY16_BE, Y444, Y444_10LE, Y444_10BE, Y444_12LE, Y444_12BE, Y444_16LE, Y444_16BE, NV24, AYUV, VUYA }"
-#define CAPS "video/x-raw, format=" FORMATS ", width=[1, 16384], height=[1, 16384], framerate=[0/1, 2147483647/1]"
-
-G_DECLARE_FINAL_TYPE(SwsConvert, sws_convert_element, SWS, CONVERT, GstVideoFilter)
-
-struct _SwsConvert {
-    GstVideoFilter parent;
-    guint dither;
-    struct sws_plan plan;
-    /* raw frames, where the planes of a buffer have other strides */
-    guint8 *input, *output;
-    guint64 input_length, output_length;
-};
-
-G_DEFINE_TYPE(SwsConvert, sws_convert_element, GST_TYPE_VIDEO_FILTER)
-
-enum { PROPERTY_DITHER = 1 };
-
-static void forget(SwsConvert *self)
-{
-    sws_close(&self->plan);
-    g_clear_pointer(&self->input, g_free);
-    g_clear_pointer(&self->output, g_free);
-}
-
-static const char *matrix_named(GstVideoColorMatrix matrix)
-{
-    switch (matrix) {
-    case GST_VIDEO_COLOR_MATRIX_FCC:
-        return "fcc";
-    case GST_VIDEO_COLOR_MATRIX_BT709:
-        return "bt709";
-    case GST_VIDEO_COLOR_MATRIX_SMPTE240M:
-        return "smpte240m";
-    case GST_VIDEO_COLOR_MATRIX_BT2020:
-        return "bt2020";
-    default:
-        return "bt601"; /* unknown, or red, green and blue, which have no matrix */
-    }
-}
-
-/* The side of some caps; FALSE where they are not one that sws can have. */
-static gboolean side_of(const GstVideoInfo *info, struct sws_side *side)
-{
-    gboolean is_limited = info->colorimetry.range == GST_VIDEO_COLOR_RANGE_16_235;
-    const char *name = NULL;
-    for (gsize i = 0; i < G_N_ELEMENTS(known) && !name; i++)
-        if (known[i].format == GST_VIDEO_INFO_FORMAT(info))
-            name = known[i].name;
-    if (!name || (is_limited && GST_VIDEO_INFO_IS_RGB(info)))
-        return FALSE;
-    side->range = is_limited ? SWS_LIMITED : SWS_FULL;
-    return !sws_find(name, &side->format) && !sws_set_matrix(side, matrix_named(info->colorimetry.matrix));
-}
-
-static gboolean set_info(GstVideoFilter *filter, GstCaps *in_caps, GstVideoInfo *in, GstCaps *out_caps, GstVideoInfo *out)
-{
-    SwsConvert *self = SWS_CONVERT(filter);
-    struct sws_conversion conversion = {0};
-    (void)in_caps, (void)out_caps;
-    forget(self);
-    if (GST_VIDEO_INFO_IS_INTERLACED(in) && self->dither)
-        GST_INFO_OBJECT(self, "the dither goes by the rows of the whole frame");
-    if (!side_of(in, &conversion.from) || !side_of(out, &conversion.to))
-        return FALSE;
-    conversion.dither = self->dither;
-    guint32 width = GST_VIDEO_INFO_WIDTH(in), height = GST_VIDEO_INFO_HEIGHT(in);
-    guint32 status = sws_make(&conversion, &self->plan);
-    if (!status)
-        status = sws_bytes(conversion.from.format, width, height, &self->input_length);
-    if (!status)
-        status = sws_bytes(conversion.to.format, width, height, &self->output_length);
-    if (!status) {
-        self->input = g_try_malloc(self->input_length);
-        self->output = g_try_malloc(self->output_length);
-        status = self->input && self->output ? SWS_OK : SWS_MEMORY;
-    }
-    if (status)
-        GST_ERROR_OBJECT(self, "%s", sws_text(status));
-    return !status;
-}
-
-/* Copies the rows of the planes of a frame to a raw frame, or back. */
-static void copy_planes(GstVideoFrame *frame, guint8 *raw, gboolean is_back)
-{
-    for (guint plane = 0; plane < GST_VIDEO_FRAME_N_PLANES(frame); plane++) {
-        gint components[GST_VIDEO_MAX_COMPONENTS];
-        gst_video_format_info_component(frame->info.finfo, plane, components);
-        gsize length = (gsize)GST_VIDEO_FRAME_COMP_WIDTH(frame, components[0]) * GST_VIDEO_FRAME_COMP_PSTRIDE(frame, components[0]);
-        guint8 *row = GST_VIDEO_FRAME_PLANE_DATA(frame, plane);
-        for (gint y = 0; y < GST_VIDEO_FRAME_HEIGHT(frame); y++, raw += length, row += GST_VIDEO_FRAME_PLANE_STRIDE(frame, plane))
-            memcpy(is_back ? row : raw, is_back ? raw : row, length);
-    }
-}
-
-static GstFlowReturn transform_frame(GstVideoFilter *filter, GstVideoFrame *in, GstVideoFrame *out)
-{
-    SwsConvert *self = SWS_CONVERT(filter);
-    copy_planes(in, self->input, FALSE);
-    guint32 status = sws_run(&self->plan, 0, GST_VIDEO_FRAME_WIDTH(in), GST_VIDEO_FRAME_HEIGHT(in), self->input,
-                             self->input_length, self->output, self->output_length);
-    if (status) {
-        GST_ELEMENT_ERROR(self, STREAM, FAILED, (NULL), ("%s", sws_text(status)));
-        return GST_FLOW_ERROR;
-    }
-    copy_planes(out, self->output, TRUE);
-    return GST_FLOW_OK;
-}
-
-/* Any format and colorimetry may be made of any other; all else stays. */
-static GstCaps *transform_caps(GstBaseTransform *base, GstPadDirection direction, GstCaps *caps, GstCaps *filter)
-{
-    GstCaps *any = gst_caps_copy(caps);
-    (void)base, (void)direction;
-    for (guint i = 0; i < gst_caps_get_size(any); i++)
-        gst_structure_remove_fields(gst_caps_get_structure(any, i), "format", "colorimetry", "chroma-site", NULL);
-    if (filter) {
-        GstCaps *both = gst_caps_intersect_full(filter, any, GST_CAPS_INTERSECT_FIRST);
-        gst_caps_unref(any);
-        any = both;
-    }
-    return any;
-}
-
-static gboolean stop(GstBaseTransform *base)
-{
-    forget(SWS_CONVERT(base));
-    return TRUE;
-}
-
-static void finalize(GObject *object)
-{
-    forget(SWS_CONVERT(object));
-    G_OBJECT_CLASS(sws_convert_element_parent_class)->finalize(object);
-}
-
-static void set_property(GObject *object, guint id, const GValue *value, GParamSpec *spec)
-{
-    if (id == PROPERTY_DITHER)
-        SWS_CONVERT(object)->dither = g_value_get_uint(value);
-    else
-        G_OBJECT_WARN_INVALID_PROPERTY_ID(object, id, spec);
-}
-
-static void get_property(GObject *object, guint id, GValue *value, GParamSpec *spec)
-{
-    if (id == PROPERTY_DITHER)
-        g_value_set_uint(value, SWS_CONVERT(object)->dither);
-    else
-        G_OBJECT_WARN_INVALID_PROPERTY_ID(object, id, spec);
-}
-
-static void sws_convert_element_init(SwsConvert *self)
-{
-    self->plan.owner = NULL;
-}
-
-static void sws_convert_element_class_init(SwsConvertClass *class)
-{
-    GObjectClass *object = G_OBJECT_CLASS(class);
-    GstElementClass *element = GST_ELEMENT_CLASS(class);
-    GstCaps *caps = gst_caps_from_string(CAPS);
-    object->finalize = finalize;
-    object->set_property = set_property;
-    object->get_property = get_property;
-    g_object_class_install_property(object, PROPERTY_DITHER,
-                                    g_param_spec_uint("dither", "Dither", "ordered dither over squares of 2^dither pixels; 0: none",
-                                                      0, 4, 0, G_PARAM_READWRITE | G_PARAM_STATIC_STRINGS));
-    gst_element_class_add_pad_template(element, gst_pad_template_new("sink", GST_PAD_SINK, GST_PAD_ALWAYS, caps));
-    gst_element_class_add_pad_template(element, gst_pad_template_new("src", GST_PAD_SRC, GST_PAD_ALWAYS, caps));
-    gst_caps_unref(caps);
-    gst_element_class_set_static_metadata(element, "Exact pixel format converter", "Filter/Converter/Video",
-                                          "Converts between pixel formats exactly", "sws");
-    GST_BASE_TRANSFORM_CLASS(class)->transform_caps = transform_caps;
-    GST_BASE_TRANSFORM_CLASS(class)->stop = stop;
-    GST_BASE_TRANSFORM_CLASS(class)->passthrough_on_same_caps = TRUE;
-    GST_VIDEO_FILTER_CLASS(class)->set_info = set_info;
-    GST_VIDEO_FILTER_CLASS(class)->transform_frame = transform_frame;
-}
-
-static gboolean plugin_init(GstPlugin *plugin)
-{
-    return gst_element_register(plugin, "swsconvert", GST_RANK_NONE, sws_convert_element_get_type());
-}
-
-GST_PLUGIN_DEFINE(GST_VERSION_MAJOR, GST_VERSION_MINOR, swsconvert, "Exact conversion between pixel formats", plugin_init, "0.1",
-                  "Proprietary", PACKAGE, "https://localhost/")
+GST_PLUGIN_DEFINE (GST_VERSION_MAJOR, GST_VERSION_MINOR, swsconvert,
+    "exact conversion between pixel formats", plugin_init, "0.1",
+    GST_LICENSE_UNKNOWN, "sws", "sws")
