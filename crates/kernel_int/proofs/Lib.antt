@@ -19,15 +19,16 @@ pub mod MadeValues
 pub mod MappedSteps
 pub mod NarrowSteps
 pub mod Palettes
+pub mod PlaneRows
 pub mod Positions
 pub mod RationalSteps
 pub mod Rationals
 pub mod RowSums
+pub mod RowFrames
 pub mod Rows
 pub mod ScaleSteps
 pub mod Sixteens
 pub mod Swizzles
-pub mod Threes
 pub mod ValueBlocks
 pub mod ValueFractions
 pub mod WholeSteps

@@ -1,11 +1,16 @@
-ghost use Rattle.std.specs.Prelude.{◌≡◌, ℕ, ◌*◌, ◌<◌, length, sum, slice_index};
+ghost use Rattle.std.specs.Prelude.{◌≡◌, ℕ, ◌*◌, ◌<◌, length, sum, slice_index, []};
 ghost use Rattle.op_list.specs.declared.position.PixelPosition.{PixelPosition};
 ghost use Rattle.op_list.specs.Pixel.{element_of, frame_length};
 ghost use Rattle.op_list.specs.Run.{run, read_length};
 ghost use Rattle.kernel_int.specs.Block.{IsOtherRow, position_at};
-ghost use Rattle.kernel_int.specs.Forms.{IsKernel, last_op, planes_of, elem_of, bits_of, width_of};
+ghost use Rattle.kernel_int.specs.Forms.{IsKernel, last_op, op_at, planes_of, elem_of, bits_of};
+ghost use Rattle.kernel_int.specs.Forms.{width_of};
+ghost use Rattle.kernel_int.specs.Planes.{AreRows, palette_length, row_frame, row_list};
+ghost use Rattle.kernel_int.specs.Planes.{rows_of};
 
+use crate::cut::{cut, row_lengths};
 use crate::form::{Form, NumberWidth, Storage};
+use crate::planes::Planes;
 use crate::row::run_blocks;
 use crate::whole_number::WholeNumber;
 use op_list::Op;
@@ -35,6 +40,90 @@ impl Model for RowKernel {
 }
 
 impl RowKernel {
+    /// Runs the list on a row of pixels, which stands in the rows of planes: the frame of one row
+    /// that the written rows make has at each pixel the elements that the list means for the frame
+    /// of one row that the rows of input make. Each row has the bytes of its plane that Read, or
+    /// Write, states for `width`, and is empty where there is none. The dither goes by y. It takes
+    /// no memory.
+    pub fn run_planes(
+        &self,
+        input: &Planes<'_>,
+        first: &mut [u8],
+        second: &mut [u8],
+        third: &mut [u8],
+        fourth: &mut [u8],
+        width: u32,
+        y: u32,
+    )
+        requires input { AreRows (op_at self.now 0) width (rows_of input.now) }
+        requires palette { length input.now.palette.now ≡ palette_length (op_at self.now 0) }
+        requires output { AreRows (last_op self.now) width
+            (row_list first.old second.old third.old fourth.old) }
+        ensures pixels { (x v : ℕ) → x < width → v < sum (planes_of (last_op self.now))
+            → element_of (elem_of (last_op self.now)) (planes_of (last_op self.now))
+            (row_frame (row_list first.new second.new third.new fourth.new) [])
+            (position_at width 1 0 y x) v
+            ≡ slice_index (run self.now (row_frame (rows_of input.now) input.now.palette.now)
+            width 1 x 0 y) v }
+    {
+        match self.storage {
+            Storage::Bytes => {
+                let mut values = [0u8; 256];
+                let mut spare = [0u8; 256];
+                run_stored(
+                    &self.ops,
+                    &self.forms,
+                    self.number_width,
+                    input,
+                    first,
+                    second,
+                    third,
+                    fourth,
+                    width,
+                    y,
+                    &mut values,
+                    &mut spare,
+                )
+            }
+            Storage::Words => {
+                let mut values = [0u16; 256];
+                let mut spare = [0u16; 256];
+                run_stored(
+                    &self.ops,
+                    &self.forms,
+                    self.number_width,
+                    input,
+                    first,
+                    second,
+                    third,
+                    fourth,
+                    width,
+                    y,
+                    &mut values,
+                    &mut spare,
+                )
+            }
+            Storage::DoubleWords => {
+                let mut values = [0u32; 256];
+                let mut spare = [0u32; 256];
+                run_stored(
+                    &self.ops,
+                    &self.forms,
+                    self.number_width,
+                    input,
+                    first,
+                    second,
+                    third,
+                    fourth,
+                    width,
+                    y,
+                    &mut values,
+                    &mut spare,
+                )
+            }
+        }
+    }
+
     /// Runs the list on a row of pixels: each pixel of the row has the elements that the list
     /// means, and no other pixel is changed. Input and output have the lengths that Read and Write
     /// state for `width` and `rows`; the dither goes by y. It takes no memory.
@@ -52,59 +141,22 @@ impl RowKernel {
             ≡ element_of (elem_of (last_op self.now))
             (planes_of (last_op self.now)) output.old other v }
     {
-        match self.storage {
-            Storage::Bytes => {
-                let mut values = [0u8; 256];
-                let mut spare = [0u8; 256];
-                run_stored(
-                    &self.ops,
-                    &self.forms,
-                    self.number_width,
-                    input,
-                    output,
-                    width,
-                    rows,
-                    row,
-                    y,
-                    &mut values,
-                    &mut spare,
-                )
-            }
-            Storage::Words => {
-                let mut values = [0u16; 256];
-                let mut spare = [0u16; 256];
-                run_stored(
-                    &self.ops,
-                    &self.forms,
-                    self.number_width,
-                    input,
-                    output,
-                    width,
-                    rows,
-                    row,
-                    y,
-                    &mut values,
-                    &mut spare,
-                )
-            }
-            Storage::DoubleWords => {
-                let mut values = [0u32; 256];
-                let mut spare = [0u32; 256];
-                run_stored(
-                    &self.ops,
-                    &self.forms,
-                    self.number_width,
-                    input,
-                    output,
-                    width,
-                    rows,
-                    row,
-                    y,
-                    &mut values,
-                    &mut spare,
-                )
-            }
-        }
+        let input = cut(&self.ops[0], input, width, rows, row);
+        let [a, b, c, d] = row_lengths(&self.ops[self.ops.len() - 1], width);
+        let rows = rows as usize;
+        let row = row as usize;
+        let (first, rest) = output.split_at_mut(rows * a);
+        let (second, rest) = rest.split_at_mut(rows * b);
+        let (third, fourth) = rest.split_at_mut(rows * c);
+        self.run_planes(
+            &input,
+            &mut first[row * a..row * a + a],
+            &mut second[row * b..row * b + b],
+            &mut third[row * c..row * c + c],
+            &mut fourth[row * d..row * d + d],
+            width,
+            y,
+        )
     }
 }
 
@@ -113,27 +165,28 @@ fn run_stored<W: WholeNumber>(
     ops: &[Op],
     forms: &[Form],
     number_width: NumberWidth,
-    input: &[u8],
-    output: &mut [u8],
+    input: &Planes<'_>,
+    first: &mut [u8],
+    second: &mut [u8],
+    third: &mut [u8],
+    fourth: &mut [u8],
     width: u32,
-    rows: u32,
-    row: u32,
     y: u32,
     values: &mut [W],
     spare: &mut [W],
 )
     requires stored { IsKernel ops.now forms.now W.bits (width_of number_width) }
-    requires input { length input.now ≡ read_length ops.now width rows }
-    requires output { length output.old ≡ frame_length (last_op ops.now) width rows }
-    requires row { row < rows }
+    requires input { AreRows (op_at ops.now 0) width (rows_of input.now) }
+    requires entries { length input.now.palette.now ≡ palette_length (op_at ops.now 0) }
+    requires output { AreRows (last_op ops.now) width
+        (row_list first.old second.old third.old fourth.old) }
     requires block { (length values.old ≡ 256) × (length spare.old ≡ 256) }
     ensures stored { (x v : ℕ) → x < width → v < sum (planes_of (last_op ops.now))
-        → element_of (elem_of (last_op ops.now)) (planes_of (last_op ops.now)) output.new
-        (position_at width rows row y x) v
-        ≡ slice_index (run ops.now input.now width rows x row y) v }
-    ensures others { (other : PixelPosition) → IsOtherRow width rows row other → (v : ℕ)
-        → element_of (elem_of (last_op ops.now)) (planes_of (last_op ops.now)) output.new other v
-        ≡ element_of (elem_of (last_op ops.now)) (planes_of (last_op ops.now)) output.old other v }
+        → element_of (elem_of (last_op ops.now)) (planes_of (last_op ops.now))
+        (row_frame (row_list first.new second.new third.new fourth.new) [])
+        (position_at width 1 0 y x) v
+        ≡ slice_index (run ops.now (row_frame (rows_of input.now) input.now.palette.now)
+        width 1 x 0 y) v }
 {
     match number_width {
         NumberWidth::Bits32 => {
@@ -143,10 +196,11 @@ fn run_stored<W: WholeNumber>(
                 ops,
                 forms,
                 input,
-                output,
+                first,
+                second,
+                third,
+                fourth,
                 width,
-                rows,
-                row,
                 y,
                 values,
                 spare,
@@ -161,10 +215,11 @@ fn run_stored<W: WholeNumber>(
                 ops,
                 forms,
                 input,
-                output,
+                first,
+                second,
+                third,
+                fourth,
                 width,
-                rows,
-                row,
                 y,
                 values,
                 spare,
@@ -179,10 +234,11 @@ fn run_stored<W: WholeNumber>(
                 ops,
                 forms,
                 input,
-                output,
+                first,
+                second,
+                third,
+                fourth,
                 width,
-                rows,
-                row,
                 y,
                 values,
                 spare,
