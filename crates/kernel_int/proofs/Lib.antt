@@ -1,6 +1,7 @@
 pub mod Blocks
 pub mod ClearSteps
 pub mod Compiled
+pub mod CutRows
 pub mod DitherSteps
 pub mod Division
 pub mod Extents
@@ -22,6 +23,7 @@ pub mod Palettes
 pub mod PlaneRows
 pub mod Positions
 pub mod RationalSteps
+pub mod PutRows
 pub mod Rationals
 pub mod RowSums
 pub mod RowFrames

@@ -4,7 +4,6 @@ use Rattle.std.proofs.Common.{slice_index, get_or, refl, sym, ap, ◌∙◌, ari
 use Rattle.std.specs.Prelude.{sum}
 use Rattle.std.proofs.lemmas.Bool.{cases_lt, cond_below, cond_above}
 use Rattle.std.proofs.lemmas.Grind.{get_or_after_one}
-use Rattle.std.proofs.lemmas.List.{get_or_past}
 use Rattle.std.proofs.lemmas.Nat.{same_from_place}
 use Rattle.std.proofs.Math.Nat.{mul-le-mul_right}
 use Rattle.op_list.specs.declared.types.PixType.{PixType}
@@ -148,12 +147,11 @@ same_by_plane elem (n ∷ planes) a b x y v each =
     (cases_lt v n)
 
 -- ---- four planes
-none_past : (planes : List ℕ) (p e : ℕ) → length planes ≡ 4 → e < slice_index planes (suc (suc (suc (suc p)))) → ⊥
-none_past planes p e four inside =
-    let none : slice_index planes (suc (suc (suc (suc p)))) ≡ 0 = get_or_past planes (suc (suc (suc (suc p)))) 0 (omega (arith, four)) in
-    omega (arith, none, inside)
+none_past : (planes : List ℕ) (p e : ℕ) → ((p : ℕ) → 4 ≤ p → slice_index planes p ≡ 0)
+    → e < slice_index planes (suc (suc (suc (suc p)))) → ⊥
+none_past planes p e none inside = omega (arith, none (suc (suc (suc (suc p)))) (omega arith), inside)
 
-pub by_four : (elem : PixType) (planes a b c d : List ℕ) (x v m : ℕ) → length planes ≡ 4 → v < sum planes
+pub by_four : (elem : PixType) (planes a b c d : List ℕ) (x v m : ℕ) → ((p : ℕ) → 4 ≤ p → slice_index planes p ≡ 0) → v < sum planes
     → ((e : ℕ) → e < slice_index planes 0 → v ≡ e → m ≡ element elem a (x * slice_index planes 0 + e))
     → ((e : ℕ) → e < slice_index planes 1 → v ≡ slice_index planes 0 + e → m ≡ element elem b (x * slice_index planes 1 + e))
     → ((e : ℕ) → e < slice_index planes 2 → v ≡ slice_index planes 0 + slice_index planes 1 + e
@@ -161,7 +159,7 @@ pub by_four : (elem : PixType) (planes a b c d : List ℕ) (x v m : ℕ) → len
     → ((e : ℕ) → e < slice_index planes 3 → v ≡ slice_index planes 0 + slice_index planes 1 + slice_index planes 2 + e
     → m ≡ element elem d (x * slice_index planes 3 + e))
     → m ≡ row_element elem planes (row_list a b c d) x v
-by_four elem planes a b c d x v m four within first second third fourth = by_plane elem planes (row_list a b c d) x v m within each
+by_four elem planes a b c d x v m none within first second third fourth = by_plane elem planes (row_list a b c d) x v m within each
   where
     one : sum (take 1 planes) ≡ slice_index planes 0
     one = omega (arith, plane_more planes 0)
@@ -175,9 +173,9 @@ by_four elem planes a b c d x v m four within first second third fourth = by_pla
     each (suc zero) e inside is = second e inside (omega (arith, is, one))
     each (suc (suc zero)) e inside is = third e inside (omega (arith, is, two))
     each (suc (suc (suc zero))) e inside is = fourth e inside (omega (arith, is, three))
-    each (suc (suc (suc (suc p)))) e inside is = absurd (none_past planes p e four inside)
+    each (suc (suc (suc (suc p)))) e inside is = absurd (none_past planes p e none inside)
 
-pub same_four : (elem : PixType) (planes a b c d i j k l : List ℕ) (x y v : ℕ) → length planes ≡ 4
+pub same_four : (elem : PixType) (planes a b c d i j k l : List ℕ) (x y v : ℕ) → ((p : ℕ) → 4 ≤ p → slice_index planes p ≡ 0)
     → ((e : ℕ) → e < slice_index planes 0
     → element elem a (x * slice_index planes 0 + e) ≡ element elem i (y * slice_index planes 0 + e))
     → ((e : ℕ) → e < slice_index planes 1
@@ -187,7 +185,7 @@ pub same_four : (elem : PixType) (planes a b c d i j k l : List ℕ) (x y v : �
     → ((e : ℕ) → e < slice_index planes 3
     → element elem d (x * slice_index planes 3 + e) ≡ element elem l (y * slice_index planes 3 + e))
     → row_element elem planes (row_list a b c d) x v ≡ row_element elem planes (row_list i j k l) y v
-same_four elem planes a b c d i j k l x y v four first second third fourth =
+same_four elem planes a b c d i j k l x y v none first second third fourth =
     same_by_plane elem planes (row_list a b c d) (row_list i j k l) x y v each
   where
     each : (p e : ℕ) → e < slice_index planes p
@@ -197,4 +195,4 @@ same_four elem planes a b c d i j k l x y v four first second third fourth =
     each (suc zero) e inside = second e inside
     each (suc (suc zero)) e inside = third e inside
     each (suc (suc (suc zero))) e inside = fourth e inside
-    each (suc (suc (suc (suc p)))) e inside = absurd (none_past planes p e four inside)
+    each (suc (suc (suc (suc p)))) e inside = absurd (none_past planes p e none inside)

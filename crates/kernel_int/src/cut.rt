@@ -1,7 +1,7 @@
 // The row of a raw frame, cut out of its planes.
-ghost use Rattle.std.specs.Prelude.{◌≡◌, ℕ, ◌*◌, ◌<◌, ◌≤◌, true, length, slice_index};
+ghost use Rattle.std.specs.Prelude.{◌≡◌, ℕ, ◌*◌, ◌<◌, ◌≤◌, true, length, slice_index, take, drop};
 ghost use Rattle.op_list.specs.Types.{bytes};
-ghost use Rattle.op_list.specs.Typing.{are_good};
+ghost use Rattle.op_list.specs.Typing.{are_good, may_follow};
 ghost use Rattle.op_list.specs.Apply.{apply};
 ghost use Rattle.op_list.specs.Pixel.{frame_length};
 ghost use Rattle.op_list.specs.Values.{no_values};
@@ -30,8 +30,7 @@ fn bytes(elem: PixType) -> usize
 // The bytes of a row of each plane that a Read or a Write states.
 pub fn row_lengths(op: &Op, width: u32) -> [usize; 4]
     requires { has_planes op.now ≡ true }
-    ensures lengths { (p : ℕ) → p < 4 → slice_index result p ≡ row_length op.now width p }
-    ensures four { length (planes_of op.now) ≡ 4 }
+    ensures { (p : ℕ) → p < 4 → slice_index result p ≡ row_length op.now width p }
 {
     let (elem, planes) = match op {
         Op::Read { elem, planes, .. } => (*elem, *planes),
@@ -49,9 +48,22 @@ pub fn row_lengths(op: &Op, width: u32) -> [usize; 4]
     ]
 }
 
+// A row of the plane that a frame begins with, by the bytes of a row, and what stands behind that
+// plane.
+#[tactic(auto, using(crate::proofs::CutRows::part_of_row))]
+fn cut_row<'a>(frame: &'a [u8], size: usize, rows: usize, row: usize) -> (&'a [u8], &'a [u8])
+    requires room { rows * size ≤ length frame.now }
+    requires row { row < rows }
+    ensures row { result.0.now ≡ take size (drop (row * size) (take (rows * size) frame.now)) }
+    ensures behind { result.1.now ≡ drop (rows * size) frame.now }
+{
+    let (plane, behind) = frame.split_at(rows * size);
+    (&plane[row * size..row * size + size], behind)
+}
+
 // The row of a frame, and its palette.
 pub fn cut<'a>(op: &Op, frame: &'a [u8], width: u32, rows: u32, row: u32) -> Planes<'a>
-    requires planes { has_planes op.now ≡ true }
+    requires follows { may_follow Start op.now ≡ true }
     requires good { are_good Start op.now ≡ true }
     requires frame { length frame.now ≡ frame_length op.now width rows }
     requires row { row < rows }
@@ -65,15 +77,15 @@ pub fn cut<'a>(op: &Op, frame: &'a [u8], width: u32, rows: u32, row: u32) -> Pla
     let [a, b, c, d] = row_lengths(op, width);
     let rows = rows as usize;
     let row = row as usize;
-    let (first, rest) = frame.split_at(rows * a);
-    let (second, rest) = rest.split_at(rows * b);
-    let (third, rest) = rest.split_at(rows * c);
-    let (fourth, palette) = rest.split_at(rows * d);
+    let (first, rest) = cut_row(frame, a, rows, row);
+    let (second, rest) = cut_row(rest, b, rows, row);
+    let (third, rest) = cut_row(rest, c, rows, row);
+    let (fourth, palette) = cut_row(rest, d, rows, row);
     Planes {
-        first: &first[row * a..row * a + a],
-        second: &second[row * b..row * b + b],
-        third: &third[row * c..row * c + c],
-        fourth: &fourth[row * d..row * d + d],
+        first,
+        second,
+        third,
+        fourth,
         palette,
     }
 }

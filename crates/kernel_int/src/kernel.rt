@@ -1,12 +1,15 @@
-ghost use Rattle.std.specs.Prelude.{◌≡◌, ℕ, ◌*◌, ◌<◌, length, sum, slice_index, []};
+ghost use Rattle.std.specs.Prelude.{◌≡◌, ℕ, ◌+◌, ◌*◌, ◌<◌, true, length, sum, slice_index, []};
+ghost use Rattle.op_list.specs.Typing.{are_counts, are_good, are_typed, ends_with_write};
+ghost use Rattle.op_list.specs.Typing.{may_follow};
+ghost use Rattle.op_list.specs.declared.types.Stage.TheVariants.{Start};
 ghost use Rattle.op_list.specs.declared.position.PixelPosition.{PixelPosition};
 ghost use Rattle.op_list.specs.Pixel.{element_of, frame_length};
 ghost use Rattle.op_list.specs.Run.{run, read_length};
 ghost use Rattle.kernel_int.specs.Block.{IsOtherRow, position_at};
 ghost use Rattle.kernel_int.specs.Forms.{IsKernel, last_op, op_at, planes_of, elem_of, bits_of};
 ghost use Rattle.kernel_int.specs.Forms.{width_of};
-ghost use Rattle.kernel_int.specs.Planes.{AreRows, palette_length, row_frame, row_list};
-ghost use Rattle.kernel_int.specs.Planes.{rows_of};
+ghost use Rattle.kernel_int.specs.Planes.{AreRows, has_planes, palette_length, row_frame};
+ghost use Rattle.kernel_int.specs.Planes.{row_length, row_list, rows_of};
 
 use crate::cut::{cut, row_lengths};
 use crate::form::{Form, NumberWidth, Storage};
@@ -141,15 +144,51 @@ impl RowKernel {
             ≡ element_of (elem_of (last_op self.now))
             (planes_of (last_op self.now)) output.old other v }
     {
-        let input = cut(&self.ops[0], input, width, rows, row);
-        let [a, b, c, d] = row_lengths(&self.ops[self.ops.len() - 1], width);
+        let input = cut(read_op(&self.ops), input, width, rows, row);
+        let sizes = row_lengths(write_op(&self.ops), width);
+        self.run_into(&input, output, &sizes, width, rows, row, y)
+    }
+
+    // Runs the list on the rows of planes, into a row of a frame, whose planes have rows of these
+    // sizes.
+    fn run_into(
+        &self,
+        input: &Planes<'_>,
+        output: &mut [u8],
+        sizes: &[usize; 4],
+        width: u32,
+        rows: u32,
+        row: u32,
+        y: u32,
+    )
+        requires input { AreRows (op_at self.now 0) width (rows_of input.now) }
+        requires palette { length input.now.palette.now ≡ palette_length (op_at self.now 0) }
+        requires counts { are_counts 4 (planes_of (last_op self.now)) ≡ true }
+        requires sizes { (p : ℕ) → p < 4
+            → slice_index sizes.now p ≡ row_length (last_op self.now) width p }
+        requires output { length output.old ≡ rows * slice_index sizes.now 0
+            + rows * slice_index sizes.now 1 + rows * slice_index sizes.now 2
+            + rows * slice_index sizes.now 3 }
+        requires row { row < rows }
+        ensures row { (x v : ℕ) → x < width → v < sum (planes_of (last_op self.now))
+            → element_of (elem_of (last_op self.now)) (planes_of (last_op self.now)) output.new
+            (position_at width rows row y x) v
+            ≡ slice_index (run self.now (row_frame (rows_of input.now) input.now.palette.now)
+            width 1 x 0 y) v }
+        ensures others { (other : PixelPosition) → IsOtherRow width rows row other → (v : ℕ)
+            → element_of (elem_of (last_op self.now))
+            (planes_of (last_op self.now)) output.new other v
+            ≡ element_of (elem_of (last_op self.now))
+            (planes_of (last_op self.now)) output.old other v }
+    {
+        let [a, b, c, d] = *sizes;
         let rows = rows as usize;
         let row = row as usize;
         let (first, rest) = output.split_at_mut(rows * a);
         let (second, rest) = rest.split_at_mut(rows * b);
         let (third, fourth) = rest.split_at_mut(rows * c);
         self.run_planes(
-            &input,
+            input,
             &mut first[row * a..row * a + a],
             &mut second[row * b..row * b + b],
             &mut third[row * c..row * c + c],
@@ -158,6 +197,28 @@ impl RowKernel {
             y,
         )
     }
+}
+
+// The Read of a whole list.
+fn read_op(ops: &[Op]) -> &Op
+    requires typed { are_typed Start ops.now ≡ true }
+    requires whole { ends_with_write ops.now ≡ true }
+    ensures value { result.now ≡ op_at ops.now 0 }
+    ensures follows { may_follow Start result.now ≡ true }
+    ensures good { are_good Start result.now ≡ true }
+{
+    &ops[0]
+}
+
+// Its Write.
+fn write_op(ops: &[Op]) -> &Op
+    requires typed { are_typed Start ops.now ≡ true }
+    requires whole { ends_with_write ops.now ≡ true }
+    ensures value { result.now ≡ last_op ops.now }
+    ensures planes { has_planes result.now ≡ true }
+    ensures good { are_good Start result.now ≡ true }
+{
+    &ops[ops.len() - 1]
 }
 
 // The row, in blocks of this storage.
