@@ -287,3 +287,7 @@ cut_same op width rows row x y sizes f g h i behind a b c d follows good are siz
 pub write_has_planes : (op : Op) → is_write op ≡ true → has_planes op ≡ true
 write_has_planes (Write elem planes) h = refl
 write_has_planes op h = cc
+
+pub write_palette : (op : Op) → is_write op ≡ true → palette_length op ≡ 0
+write_palette (Write elem planes) h = refl
+write_palette op h = cc

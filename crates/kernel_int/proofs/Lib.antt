@@ -28,6 +28,7 @@ pub mod Rationals
 pub mod RowSums
 pub mod RowFrames
 pub mod Rows
+pub mod RunRows
 pub mod ScaleSteps
 pub mod Sixteens
 pub mod Swizzles
