@@ -94,8 +94,14 @@ pub row_size : (part : List ℕ) (rows row size : ℕ) → row < rows → rows *
     → length (take size (drop (row * size) (take (rows * size) part))) ≡ size
 row_size part rows row size inside room =
     let ends : row * size + size ≤ rows * size = part_of_row rows row size (length part) inside room in
-    omega (arith, ends, room, length-take size (drop (row * size) (take (rows * size) part)),
-    length-drop (row * size) (take (rows * size) part), length-take (rows * size) part)
+    omega (
+      arith,
+      ends,
+      room,
+      length-take size (drop (row * size) (take (rows * size) part)),
+      length-drop (row * size) (take (rows * size) part),
+      length-take (rows * size) part,
+    )
 
 pub cut_total : (op : Op) (width rows : ℕ) (sizes f : List ℕ) → has_planes op ≡ true → are_good Start op ≡ true
     → ((p : ℕ) → p < 4 → slice_index sizes p ≡ row_length op width p) → length f ≡ frame_length op width rows
@@ -116,9 +122,12 @@ pub cut_rooms : (rows more : ℕ) (sizes f g h i : List ℕ)
 cut_rooms rows more sizes f g h i total second third fourth =
     let g_size = behind_length f g (rows * slice_index sizes 0) second in
     let h_size = behind_length g h (rows * slice_index sizes 1) third in
-    let i_size = behind_length h i (rows * slice_index sizes 2) fourth in
-    (omega (arith, total), omega (arith, total, g_size), omega (arith, total, g_size, h_size),
-    omega (arith, total, g_size, h_size, i_size))
+    let i_size = behind_length h i (rows * slice_index sizes 2) fourth in (
+      omega (arith, total),
+      omega (arith, total, g_size),
+      omega (arith, total, g_size, h_size),
+      omega (arith, total, g_size, h_size, i_size),
+    )
 
 pub four_sizes : (a b c d : List ℕ) (size : ℕ → ℕ) → length a ≡ size 0 → length b ≡ size 1 → length c ≡ size 2 → length d ≡ size 3
     → (p : ℕ) → p < 4 → length (row_at (row_list a b c d) p) ≡ size p
@@ -278,6 +287,7 @@ cut_same (Read elem planes palette) width rows row x y sizes f g h i behind a b 
   where
     swapped : (count : ℕ) → rows * (width * count * bytes elem) ≡ width * rows * count * bytes elem
     swapped count = omega arith
+
     cut_at : (p : ℕ) (part : List ℕ) {e : List ℕ} → p < 4 → e ≡ take (slice_index sizes p) (drop (row * slice_index sizes p) part)
         → e ≡ take (row_length (Read elem planes palette) width p) (drop (row * row_length (Read elem planes palette) width p) part)
     cut_at p part below is = is ∙ ap (λ t. take t (drop (row * t) part)) (are p below)

@@ -27,7 +27,6 @@ pub mod PutRows
 pub mod Rationals
 pub mod RowSums
 pub mod RowFrames
-pub mod Rows
 pub mod RunRows
 pub mod ScaleSteps
 pub mod Sixteens

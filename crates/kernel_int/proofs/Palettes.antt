@@ -54,6 +54,7 @@ colour_at indices palette position v small size inside =
     there : (e k : ℕ) → slice_index (indices ++ palette) (length indices + e + k) ≡ slice_index palette (e + k)
     there e k = let same : length indices + e + k ≡ length indices + (e + k) = omega arith in
         ap (slice_index (indices ++ palette)) same ∙ get_or-append-add indices palette (e + k) 0
+
     entry : (v e : ℕ) → v < 4 → slice_index (colours (indices ++ palette) (length indices + e)) v ≡ slice_index palette (e + colour_byte v)
     entry zero e h = there e 2
     entry (suc zero) e h = there e 1

@@ -82,6 +82,7 @@ plane_more planes p = rw add_one (more planes p)
   where
     add_one : p + 1 ≡ suc p
     add_one = omega arith
+
     more : (planes : List ℕ) (p : ℕ) → sum (take (suc p) planes) ≡ sum (take p planes) + slice_index planes p
     more [] zero = refl
     more [] (suc p) = refl
@@ -163,10 +164,13 @@ by_four elem planes a b c d x v m none within first second third fourth = by_pla
   where
     one : sum (take 1 planes) ≡ slice_index planes 0
     one = omega (arith, plane_more planes 0)
+
     two : sum (take 2 planes) ≡ slice_index planes 0 + slice_index planes 1
     two = omega (arith, one, plane_more planes 1)
+
     three : sum (take 3 planes) ≡ slice_index planes 0 + slice_index planes 1 + slice_index planes 2
     three = omega (arith, two, plane_more planes 2)
+
     each : (p e : ℕ) → e < slice_index planes p → v ≡ sum (take p planes) + e
         → m ≡ element elem (row_at (row_list a b c d) p) (x * slice_index planes p + e)
     each zero e inside is = first e inside (omega (arith, is))

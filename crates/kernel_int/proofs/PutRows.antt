@@ -27,8 +27,16 @@ put_length : (row size : ℕ) (part new : List ℕ) → length new ≡ size → 
     → length (put row size part new) ≡ length part
 put_length row size part new is room =
     let rest = drop (row * size + size - row * size) (drop (row * size) part) in
-    omega (arith, is, room, length-append (take (row * size) part) (new ++ rest), length-append new rest, length-take (row * size) part,
-    length-drop (row * size + size - row * size) (drop (row * size) part), length-drop (row * size) part)
+    omega (
+      arith,
+      is,
+      room,
+      length-append (take (row * size) part) (new ++ rest),
+      length-append new rest,
+      length-take (row * size) part,
+      length-drop (row * size + size - row * size) (drop (row * size) part),
+      length-drop (row * size) part,
+    )
 
 put_element : (elem : PixType) (part new : List ℕ) (width row x count e size : ℕ) → size ≡ width * count * bytes elem → length new ≡ size
     → row * size + size ≤ length part → x < width → e < count
@@ -122,6 +130,7 @@ plane_sizes op width rows sizes p q r s h =
   where
     swapped : (count size : ℕ) → rows * (width * count * size) ≡ width * rows * count * size
     swapped count size = omega arith
+
     plane : (k : ℕ) → k < 4 → rows * slice_index sizes k ≡ width * rows * slice_index (planes_of op) k * bytes (elem_of op)
     plane k below = ap (λ t. rows * t) (h.are k below) ∙ swapped (slice_index (planes_of op) k) (bytes (elem_of op))
 

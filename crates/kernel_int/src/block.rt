@@ -207,9 +207,7 @@ pub fn run_block<W: WholeNumber, N: Numerator>(
         (row_list first.old second.old third.old fourth.old) other v }
 {
     let stage = read_first(&ops[0], input, position, n, values);
-    run_steps(
-        ops, forms, stage, position, values, spare, numbers, sums,
-    );
+    run_steps(ops, forms, stage, position, values, spare, numbers, sums);
     write_last(
         &ops[ops.len() - 1],
         values,

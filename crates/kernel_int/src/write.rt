@@ -210,7 +210,12 @@ pub fn write_block<W: WholeNumber>(
         (row_list first.old second.old third.old fourth.old) other v }
 {
     let [a, b, c, d] = *planes;
-    let (a, b, c, d) = (usize::from(a), usize::from(b), usize::from(c), usize::from(d));
+    let (a, b, c, d) = (
+        usize::from(a),
+        usize::from(b),
+        usize::from(c),
+        usize::from(d),
+    );
     write_plane(elem, a, 0, values, x, n, first);
     write_plane(elem, b, a, values, x, n, second);
     write_plane(elem, c, a + b, values, x, n, third);
