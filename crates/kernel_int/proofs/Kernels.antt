@@ -1,7 +1,8 @@
 -- The operations of a list, one after the other.
 use Rattle.std.proofs.Common.{◌≡◌, ℕ, zero, suc, ◌+◌, ◌-◌, ◌^◌, ◌<◌, ◌≤◌, Bool, true, false, ℤ, List, [], ◌∷◌, ◌++◌, length, take, refl}
 use Rattle.std.proofs.Common.{sym, ap, ◌∙◌, arith, subst}
-use Rattle.std.specs.Prelude.{sum, slice_index, nat_lt, nat_le, if◌then◌else◌, ◌&&◌}
+use Rattle.std.specs.Prelude.{sum, slice_index, nat_lt, nat_le, if◌then◌else◌, ◌&&◌, ◌||◌, not}
+use Rattle.std.specs.Str.{bytes_eq}
 use Rattle.std.proofs.lemmas.Bool.{cond_below, and_parts, leb-true}
 use Rattle.std.proofs.lemmas.List.{take_more, take_all}
 use Rattle.op_list.specs.declared.types.PixType.{PixType}
@@ -13,14 +14,13 @@ use Rattle.op_list.specs.declared.op.Op.TheVariants.{Read, Write, SwapBytes, Unp
 use Rattle.op_list.specs.declared.op.Op.TheVariants.{Dither, Linear, Scale, Min, Max}
 use Rattle.op_list.specs.declared.position.PixelPosition.{PixelPosition}
 use Rattle.op_list.specs.declared.values.Values.{Values}
-use Rattle.op_list.specs.Types.{bits, bits_at, has_type, is_whole, is_rational, is_whole_type}
-use Rattle.op_list.specs.Pixel.{element_of, frame_length, HasElements}
+use Rattle.op_list.specs.Types.{bits, bits_at, has_type, is_whole, is_rational, is_whole_type, is_same}
+use Rattle.op_list.specs.Pixel.{element_of, frame_length}
 use Rattle.op_list.specs.Typing.{may_follow, are_good, stage_after, stage_from, are_typed, are_counts, are_in_front, is_write}
 use Rattle.op_list.specs.Typing.{ends_with_write}
 use Rattle.op_list.specs.Values.{number, no_values, are_fractions}
 use Rattle.op_list.specs.Apply.{apply}
 use Rattle.op_list.specs.Run.{run, run_from, read_length}
-use Rattle.op_list.proofs.Elements.{has_elements}
 use Rattle.op_list.proofs.Steps.{apply_kind}
 use Rattle.op_list.proofs.Runs.{run_from-append}
 use Rattle.kernel_int.specs.Block.{pixel_at, position_at, Holds, AreBelow}
@@ -36,7 +36,7 @@ typed_parts stage op ops h =
     let q = and_parts (may_follow stage op) (are_good stage op) p.0 in
     (q.0, q.1, p.1)
 
-counts_few : (most : ℕ) (ns : List ℕ) → are_counts most ns ≡ true → sum ns ≤ most
+pub counts_few : (most : ℕ) (ns : List ℕ) → are_counts most ns ≡ true → sum ns ≤ most
 counts_few most ns h = let p = and_parts (are_in_front ns && nat_le 1 (sum ns)) (nat_le (sum ns) most) h in leb-true _ _ p.1
 
 -- each operation may follow, and is good
@@ -162,13 +162,13 @@ written_value frame position stage (Write elem planes) values v w small within =
 written_value frame position stage op values v w small within = cc
 
 -- ---- the Read
-pub read_elements : (elem : PixType) (planes : List ℕ) (palette : Bool) (frame : List ℕ) (position : PixelPosition) → palette ≡ false
-    → are_good Start (Read elem planes palette) ≡ true
-    → length frame ≡ frame_length (Read elem planes palette) position.width position.rows → position.x < position.width
-    → position.row < position.rows → HasElements elem planes frame position
-read_elements elem planes true frame position plain good size column row = cc
-read_elements elem planes false frame position plain good size column row =
-    has_elements elem planes frame position (record { column = column; row = row; good = good; size = size })
+pub read_good : (elem : PixType) (planes : List ℕ) (palette : Bool) → are_good Start (Read elem planes palette) ≡ true
+    → (is_whole_type elem ≡ true) × (are_counts 4 planes ≡ true)
+unfolding are_good
+read_good elem planes palette good =
+    let p = and_parts (is_whole_type elem && are_counts 4 planes)
+    (not palette || (is_same elem U8 && bytes_eq planes (1 ∷ 0 ∷ 0 ∷ 0 ∷ []))) good in
+    and_parts (is_whole_type elem) (are_counts 4 planes) p.0
 
 pub read_value : (elem : PixType) (planes : List ℕ) (palette : Bool) (frame : List ℕ) (position : PixelPosition) (values : Values) (v : ℕ)
     → palette ≡ false → v < 4
@@ -242,13 +242,10 @@ unfolding may_follow are_good
 write_whole stage (Write elem planes) w f h = type_whole stage elem f (and_parts (is_whole_type elem) (are_counts 4 planes) h).0
 write_whole stage op w f h = cc
 
-pub write_elements : (elem : PixType) (planes frame : List ℕ) (position : PixelPosition) → are_good Start (Write elem planes) ≡ true
-    → length frame ≡ frame_length (Write elem planes) position.width position.rows → position.x < position.width
-    → position.row < position.rows → HasElements elem planes frame position
-unfolding are_good frame_length
-write_elements elem planes frame position good size column row =
-    let p = and_parts (is_whole_type elem) (are_counts 4 planes) good in
-    record { column = column; row = row; whole = p.0; few = counts_few 4 planes p.1; size = size }
+pub write_good : (elem : PixType) (planes : List ℕ) → are_good Start (Write elem planes) ≡ true
+    → (is_whole_type elem ≡ true) × (are_counts 4 planes ≡ true)
+unfolding are_good
+write_good elem planes good = and_parts (is_whole_type elem) (are_counts 4 planes) good
 
 pub write_few : (op : Op) → is_write op ≡ true → are_good Start op ≡ true → sum (planes_of op) ≤ 4
 unfolding are_good
@@ -381,3 +378,13 @@ pub written_few : (ops : List Op) → are_typed Start ops ≡ true → ends_with
 written_few ops typed whole =
     let two : 2 ≤ length ops = at_least_two ops whole typed in
     write_few (last_op ops) (last_writes ops whole) (last_good ops typed whole (omega arith))
+
+write_counts : (op : Op) → is_write op ≡ true → are_good Start op ≡ true → are_counts 4 (planes_of op) ≡ true
+write_counts (Write elem planes) w good = (write_good elem planes good).1
+write_counts op w good = cc
+
+pub last_counts : (ops : List Op) → are_typed Start ops ≡ true → ends_with_write ops ≡ true
+    → are_counts 4 (planes_of (last_op ops)) ≡ true
+last_counts ops typed whole =
+    let two : 2 ≤ length ops = at_least_two ops whole typed in
+    write_counts (last_op ops) (last_writes ops whole) (last_good ops typed whole (omega arith))

@@ -2,6 +2,7 @@ pub mod Blocks
 pub mod ClearSteps
 pub mod Compiled
 pub mod CompiledWalks
+pub mod CutRows
 pub mod DitherSteps
 pub mod Division
 pub mod Extents
@@ -23,15 +24,17 @@ pub mod MadeValues
 pub mod MappedSteps
 pub mod NarrowSteps
 pub mod Palettes
+pub mod PlaneRows
 pub mod Positions
 pub mod RationalSteps
+pub mod PutRows
 pub mod Rationals
 pub mod RowSums
-pub mod Rows
+pub mod RowFrames
+pub mod RunRows
 pub mod ScaleSteps
 pub mod Sixteens
 pub mod Swizzles
-pub mod Threes
 pub mod ValueBlocks
 pub mod ValueFractions
 pub mod WholeSteps

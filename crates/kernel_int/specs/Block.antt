@@ -1,17 +1,10 @@
 -- A block: 64 pixels of a row. Value v of pixel i is at 64 v + i.
-use Rattle.std.specs.Prelude.{◌≡◌, ◌≢◌, ℕ, zero, suc, ◌+◌, ◌-◌, ◌*◌, ◌<◌, ◌≤◌, ◌⊎◌, if◌then◌else◌, nat_lt, List, [], ◌∷◌, slice_index}
-use Rattle.std.specs.Prelude.{slice_index_or}
+use Rattle.std.specs.Prelude.{◌≡◌, ◌≢◌, ℕ, zero, suc, ◌+◌, ◌*◌, ◌<◌, ◌≤◌, List, slice_index, slice_index_or}
 use Rattle.op_list.specs.declared.position.PixelPosition.{PixelPosition}
-use Rattle.op_list.specs.Pixel.{pixel_number}
 
 -- the position of pixel i of a block that begins at this position
 abbrev pub pixel_at : PixelPosition → ℕ → PixelPosition
 pixel_at position i = record { width = position.width; rows = position.rows; x = position.x + i; row = position.row; y = position.y }
-
--- how far element i of a pixel is from that of the next pixel: the elements of a pixel in its plane
-abbrev pub step_in : List ℕ → ℕ → ℕ
-step_in [] i = 0
-step_in (n ∷ planes) i = if nat_lt i n then n else step_in planes (i - n)
 
 -- value v of the first n pixels is what is given, for the values below `count`
 abbrev pub Holds : {W : Type 0} → (W → ℕ) → List W → ℕ → ℕ → (ℕ → ℕ → ℕ) → Type 0
@@ -21,13 +14,13 @@ Holds {W} number block count n given = (v i : ℕ) (d : W) → v < count → i <
 abbrev pub AreBelow : {W : Type 0} → (W → ℕ) → List W → ℕ → ℕ → Type 0
 AreBelow {W} number block count limit = (v i : ℕ) (d : W) → v < count → i < 64 → number (slice_index_or block (64 * v + i) d) < limit
 
--- a pixel of the same frame that is none of the first n of a block
-pub record IsOutside (position : PixelPosition) (n : ℕ) (other : PixelPosition) : Type 0 where
-  pub width : other.width ≡ position.width
-  pub rows : other.rows ≡ position.rows
-  pub column : other.x < other.width
-  pub row : other.row < other.rows
-  pub apart : (pixel_number other < pixel_number position) ⊎ (pixel_number position + n ≤ pixel_number other)
+-- n pixels, at most a block of them, from a position on in a frame of one row
+pub record IsInRow (position : PixelPosition) (n : ℕ) : Type 0 where
+  pub rows : position.rows ≡ 1
+  pub row : position.row ≡ 0
+  pub some : 0 < n
+  pub few : n ≤ 64
+  pub within : position.x + n ≤ position.width
 
 -- a pixel of another row
 pub record IsOtherRow (across down at : ℕ) (other : PixelPosition) : Type 0 where
@@ -48,6 +41,6 @@ colour_byte (suc zero) = 1
 colour_byte (suc (suc zero)) = 0
 colour_byte (suc (suc (suc v))) = suc (suc (suc v))
 
--- a byte of the entry of the index that stands at `at`, in a table of entries
-abbrev pub colour_in : List ℕ → ℕ → ℕ → ℕ → ℕ
-colour_in frame table at byte = slice_index frame (table + 4 * slice_index frame at + byte)
+-- a byte of the entry of the index that stands at `at`
+abbrev pub colour_in : List ℕ → List ℕ → ℕ → ℕ → ℕ
+colour_in indices palette at byte = slice_index palette (4 * slice_index indices at + byte)

@@ -1,75 +1,79 @@
 // A list of operations on a block of pixels.
-ghost use Rattle.std.specs.Prelude.{◌≡◌, ℕ, ◌+◌, ◌*◌, ◌-◌, ◌^◌, ◌<◌, ◌≤◌, true, false, length, sum};
+ghost use Rattle.std.specs.Prelude.{◌≡◌, ℕ, ◌+◌, ◌*◌, ◌-◌, ◌^◌, ◌<◌, ◌≤◌, ◌⊎◌, true, false, length, sum};
 ghost use Rattle.std.specs.Prelude.{slice_index_or, List};
 ghost use Rattle.op_list.specs.Types.{bits, bits_at};
 ghost use Rattle.op_list.specs.Typing.{may_follow, are_good, stage_after, is_write};
 ghost use Rattle.op_list.specs.Apply.{apply};
 ghost use Rattle.op_list.specs.declared.types.Stage.TheVariants.{Start};
-ghost use Rattle.op_list.specs.declared.position.PixelPosition.{PixelPosition};
-ghost use Rattle.op_list.specs.Pixel.{element_of, frame_length};
 ghost use Rattle.op_list.specs.Values.{number, no_values};
-ghost use Rattle.op_list.specs.Run.{run_from, read_length};
-ghost use Rattle.kernel_int.specs.Block.{pixel_at, Holds, AreBelow, IsOutside};
+ghost use Rattle.op_list.specs.Run.{run_from};
+ghost use Rattle.kernel_int.specs.Block.{pixel_at, Holds, AreBelow, IsInRow};
 ghost use Rattle.kernel_int.specs.Forms.{IsKernel, IsState, IsBounded, form_at, stage_before};
-ghost use Rattle.kernel_int.specs.Forms.{values_before, last_op, planes_of, elem_of};
+ghost use Rattle.kernel_int.specs.Forms.{op_at, values_before, last_op, planes_of, elem_of};
+ghost use Rattle.kernel_int.specs.Planes.{AreRows, palette_length, row_element, row_frame, row_list};
+ghost use Rattle.kernel_int.specs.Planes.{rows_of};
 
 use crate::form::Form;
 use crate::numerator::Numerator;
 use crate::palette::read_palette;
+use crate::planes::Planes;
 use crate::read::read_block;
 use crate::step::step;
 use crate::whole_number::WholeNumber;
 use crate::write::write_block;
 use op_list::{Op, PixType, PixelPosition, Stage};
 
-// The elements of the first n pixels, or their colours, and 0 for the others.
+// The elements of n pixels from a position on, or their colours, and 0 for the others.
 fn read_values<W: WholeNumber>(
     elem: PixType,
     planes: &[u8; 4],
     palette: bool,
-    from: &[u8],
+    input: &Planes<'_>,
     position: &PixelPosition,
     n: usize,
     values: &mut [W],
 )
     requires good { are_good Start (Op.Read elem planes.now palette) ≡ true }
-    requires from { length from.now ≡ frame_length
-        (Op.Read elem planes.now palette) position.now.width position.now.rows }
-    requires inside { (0 < n) × (n ≤ 64) × (position.now.x + n ≤ position.now.width) }
-    requires row { position.now.row < position.now.rows }
+    requires rows { AreRows
+        (Op.Read elem planes.now palette) position.now.width (rows_of input.now) }
+    requires entries { length input.now.palette.now
+        ≡ palette_length (Op.Read elem planes.now palette) }
+    requires inside { IsInRow position.now n }
     requires bits { 2 ^ bits elem ≤ 2 ^ W.bits }
     requires block { length values.old ≡ 256 }
     ensures set { Holds W.number values.new 4 n
-        (λ v i. number (apply from.now (pixel_at position.now i) Start
-        (Op.Read elem planes.now palette) no_values) v) }
+        (λ v i. number (apply (row_frame (rows_of input.now) input.now.palette.now)
+        (pixel_at position.now i) Start (Op.Read elem planes.now palette) no_values) v) }
     ensures small { AreBelow W.number values.new 4 (2 ^ bits elem) }
 {
+    let x = position.x as usize;
     if palette {
-        read_palette(from, position, n, values)
+        read_palette(input.first, input.palette, x, n, values)
     } else {
-        read_block(elem, planes, from, position, n, values)
+        read_block(elem, planes, input, x, n, values)
     }
 }
 
-// What the Read of a list gives for the first n pixels, and where the list then stands.
+// What the Read of a list gives for n pixels, and where the list then stands.
 #[tactic(auto, unfolding(op_list::specs::Typing::may_follow, op_list::specs::Typing::stage_after))]
 fn read_first<W: WholeNumber>(
     op: &Op,
-    from: &[u8],
+    input: &Planes<'_>,
     position: &PixelPosition,
     n: usize,
     values: &mut [W],
 ) -> Stage
     requires follows { may_follow Start op.now ≡ true }
     requires good { are_good Start op.now ≡ true }
-    requires from { length from.now ≡ frame_length op.now position.now.width position.now.rows }
-    requires inside { (0 < n) × (n ≤ 64) × (position.now.x + n ≤ position.now.width) }
-    requires row { position.now.row < position.now.rows }
+    requires rows { AreRows op.now position.now.width (rows_of input.now) }
+    requires entries { length input.now.palette.now ≡ palette_length op.now }
+    requires inside { IsInRow position.now n }
     requires bits { 2 ^ bits_at (stage_after Start op.now) ≤ 2 ^ W.bits }
     requires block { length values.old ≡ 256 }
     ensures stage { result ≡ stage_after Start op.now }
     ensures set { Holds W.number values.new 4 n
-        (λ v i. number (apply from.now (pixel_at position.now i) Start op.now no_values) v) }
+        (λ v i. number (apply (row_frame (rows_of input.now) input.now.palette.now)
+        (pixel_at position.now i) Start op.now no_values) v) }
     ensures small { AreBelow W.number values.new 4 (2 ^ bits_at (stage_after Start op.now)) }
 {
     match op {
@@ -78,7 +82,7 @@ fn read_first<W: WholeNumber>(
             planes,
             palette,
         } => {
-            read_values(*elem, planes, *palette, from, position, n, values);
+            read_values(*elem, planes, *palette, input, position, n, values);
             Stage::Typed(*elem)
         }
         _ => unreachable!(),
@@ -129,31 +133,40 @@ fn run_steps<W: WholeNumber, N: Numerator>(
     }
 }
 
-// Writes the elements of the first n pixels as the Write of a list states.
+// Writes the elements of n pixels from x on as the Write of a list states.
 fn write_last<W: WholeNumber>(
     op: &Op,
     values: &[W],
     position: &PixelPosition,
     n: usize,
-    to: &mut [u8],
+    first: &mut [u8],
+    second: &mut [u8],
+    third: &mut [u8],
+    fourth: &mut [u8],
 )
     requires write { is_write op.now ≡ true }
     requires good { are_good Start op.now ≡ true }
-    requires to { length to.old ≡ frame_length op.now position.now.width position.now.rows }
-    requires inside { (0 < n) × (n ≤ 64) × (position.now.x + n ≤ position.now.width) }
-    requires row { position.now.row < position.now.rows }
+    requires rows { AreRows
+        op.now position.now.width (row_list first.old second.old third.old fourth.old) }
+    requires inside { IsInRow position.now n }
     requires block { length values.now ≡ 256 }
     requires small { AreBelow W.number values.now (sum (planes_of op.now))
         (2 ^ bits (elem_of op.now)) }
     ensures stored { (v i : ℕ) (d : W) → v < sum (planes_of op.now) → i < n
-        → element_of (elem_of op.now) (planes_of op.now) to.new (pixel_at position.now i) v
+        → row_element (elem_of op.now) (planes_of op.now)
+        (row_list first.new second.new third.new fourth.new) (position.now.x + i) v
         ≡ W.number (slice_index_or values.now (64 * v + i) d) }
-    ensures others { (other : PixelPosition) → IsOutside position.now n other → (v : ℕ)
-        → element_of (elem_of op.now) (planes_of op.now) to.new other v
-        ≡ element_of (elem_of op.now) (planes_of op.now) to.old other v }
+    ensures others { (other v : ℕ) → (other < position.now.x) ⊎ (position.now.x + n ≤ other)
+        → row_element (elem_of op.now) (planes_of op.now)
+        (row_list first.new second.new third.new fourth.new) other v
+        ≡ row_element (elem_of op.now) (planes_of op.now)
+        (row_list first.old second.old third.old fourth.old) other v }
 {
+    let x = position.x as usize;
     match op {
-        Op::Write { elem, planes } => write_block(*elem, planes, values, position, n, to),
+        Op::Write { elem, planes } => {
+            write_block(*elem, planes, values, x, n, first, second, third, fourth)
+        }
         _ => unreachable!(),
     }
 }
@@ -162,32 +175,47 @@ fn write_last<W: WholeNumber>(
 pub fn run_block<W: WholeNumber, N: Numerator>(
     ops: &[Op],
     forms: &[Form],
-    from: &[u8],
+    input: &Planes<'_>,
     position: &PixelPosition,
     n: usize,
     values: &mut [W],
     spare: &mut [W],
     numbers: &mut [N],
     sums: &mut [N],
-    to: &mut [u8],
+    first: &mut [u8],
+    second: &mut [u8],
+    third: &mut [u8],
+    fourth: &mut [u8],
 )
     requires kernel { IsKernel ops.now forms.now W.bits N.width }
-    requires from { length from.now ≡ read_length ops.now position.now.width position.now.rows }
-    requires to { length to.old ≡ frame_length
-        (last_op ops.now) position.now.width position.now.rows }
-    requires inside { (0 < n) × (n ≤ 64) × (position.now.x + n ≤ position.now.width) }
-    requires row { position.now.row < position.now.rows }
+    requires input { AreRows (op_at ops.now 0) position.now.width (rows_of input.now) }
+    requires entries { length input.now.palette.now ≡ palette_length (op_at ops.now 0) }
+    requires output { AreRows (last_op ops.now) position.now.width
+        (row_list first.old second.old third.old fourth.old) }
+    requires inside { IsInRow position.now n }
     requires block { (length values.old ≡ 256) × (length spare.old ≡ 256)
         × (length numbers.old ≡ 256) × (length sums.old ≡ 256) }
     ensures stored { (v i : ℕ) → v < sum (planes_of (last_op ops.now)) → i < n
-        → element_of (elem_of (last_op ops.now)) (planes_of (last_op ops.now)) to.new
-        (pixel_at position.now i) v ≡ number
-        (run_from from.now (pixel_at position.now i) Start ops.now no_values) v }
-    ensures others { (other : PixelPosition) → IsOutside position.now n other → (v : ℕ)
-        → element_of (elem_of (last_op ops.now)) (planes_of (last_op ops.now)) to.new other v
-        ≡ element_of (elem_of (last_op ops.now)) (planes_of (last_op ops.now)) to.old other v }
+        → row_element (elem_of (last_op ops.now)) (planes_of (last_op ops.now))
+        (row_list first.new second.new third.new fourth.new) (position.now.x + i) v
+        ≡ number (run_from (row_frame (rows_of input.now) input.now.palette.now)
+        (pixel_at position.now i) Start ops.now no_values) v }
+    ensures others { (other v : ℕ) → (other < position.now.x) ⊎ (position.now.x + n ≤ other)
+        → row_element (elem_of (last_op ops.now)) (planes_of (last_op ops.now))
+        (row_list first.new second.new third.new fourth.new) other v
+        ≡ row_element (elem_of (last_op ops.now)) (planes_of (last_op ops.now))
+        (row_list first.old second.old third.old fourth.old) other v }
 {
-    let first = read_first(&ops[0], from, position, n, values);
-    run_steps(ops, forms, first, position, values, spare, numbers, sums);
-    write_last(&ops[ops.len() - 1], values, position, n, to);
+    let stage = read_first(&ops[0], input, position, n, values);
+    run_steps(ops, forms, stage, position, values, spare, numbers, sums);
+    write_last(
+        &ops[ops.len() - 1],
+        values,
+        position,
+        n,
+        first,
+        second,
+        third,
+        fourth,
+    );
 }

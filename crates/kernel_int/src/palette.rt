@@ -1,30 +1,26 @@
-// The colours of the pixels of a block, looked up in the palette of a frame.
-ghost use Rattle.std.specs.Prelude.{◌≡◌, ℕ, ◌+◌, ◌*◌, ◌^◌, ◌<◌, ◌≤◌, ◌⊎◌, length, slice_index};
-ghost use Rattle.std.specs.Prelude.{slice_index_or};
-ghost use Rattle.op_list.specs.Pixel.{HasPalette, palette_colours, pixel_count, pixel_number};
-ghost use Rattle.kernel_int.specs.Block.{pixel_at, Holds, AreBelow, colour_byte, colour_in};
+// The colours of the pixels of a block, looked up in a palette.
+ghost use Rattle.std.specs.Prelude.{◌≡◌, ℕ, ◌+◌, ◌*◌, ◌^◌, ◌<◌, ◌≤◌, ◌⊎◌, length, slice_index_or};
+ghost use Rattle.kernel_int.specs.Block.{Holds, AreBelow, colour_byte, colour_in};
 
-use crate::stride::{pixel_count, pixel_number};
 use crate::value::fill;
 use crate::whole_number::WholeNumber;
-use op_list::PixelPosition;
 
 // A byte of the entry of an index, which stands at `at`.
-fn colour(from: &[u8], at: usize, table: usize, byte: usize) -> u32
-    requires at { at < length from.now }
-    requires table { table + 1024 ≤ length from.now }
+fn colour(indices: &[u8], palette: &[u8], at: usize, byte: usize) -> u32
+    requires at { at < length indices.now }
+    requires palette { 1024 ≤ length palette.now }
     requires byte { byte < 4 }
-    ensures value { result ≡ colour_in from.now table at byte }
+    ensures value { result ≡ colour_in indices.now palette.now at byte }
     ensures small { result < 2 ^ 8 }
 {
-    u32::from(from[table + 4 * usize::from(from[at]) + byte])
+    u32::from(palette[4 * usize::from(indices[at]) + byte])
 }
 
 // Fills value v of the first n pixels with a byte of their entries, and that of the others with 0.
 fn read_colour<W: WholeNumber>(
-    from: &[u8],
-    start: usize,
-    table: usize,
+    indices: &[u8],
+    palette: &[u8],
+    x: usize,
     byte: usize,
     n: usize,
     v: usize,
@@ -33,11 +29,11 @@ fn read_colour<W: WholeNumber>(
     requires bits { 2 ^ 8 ≤ 2 ^ W.bits }
     requires block { (v < 4) × (n ≤ 64) × (length values.old ≡ 256) }
     requires byte { byte < 4 }
-    requires indices { start + n ≤ length from.now }
-    requires table { table + 1024 ≤ length from.now }
+    requires indices { x + n ≤ length indices.now }
+    requires palette { 1024 ≤ length palette.now }
     ensures set { (i : ℕ) (d : W) → i < n
         → W.number (slice_index_or values.new (64 * v + i) d)
-        ≡ colour_in from.now table (start + i) byte }
+        ≡ colour_in indices.now palette.now (x + i) byte }
     ensures small { (i : ℕ) (d : W) → i < 64
         → W.number (slice_index_or values.new (64 * v + i) d) < 2 ^ 8 }
     ensures kept { (j : ℕ) (d : W) → (j < 64 * v) ⊎ (64 * v + 64 ≤ j)
@@ -45,7 +41,7 @@ fn read_colour<W: WholeNumber>(
 {
     fill(values, v, W::narrow(0));
     for i in 0..n {
-        values[64 * v + i] = W::narrow(colour(from, start + i, table, byte));
+        values[64 * v + i] = W::narrow(colour(indices, palette, x + i, byte));
     }
 }
 
@@ -63,25 +59,24 @@ fn colour_byte(v: usize) -> usize
     }
 }
 
-/// Fills the four values of the first n pixels with red, green, blue and alpha of their entries,
+/// Fills the four values of n pixels from x on with red, green, blue and alpha of their entries,
 /// and those of the others with 0.
 pub fn read_palette<W: WholeNumber>(
-    from: &[u8],
-    position: &PixelPosition,
+    indices: &[u8],
+    palette: &[u8],
+    x: usize,
     n: usize,
     values: &mut [W],
 )
     requires bits { 2 ^ 8 ≤ 2 ^ W.bits }
-    requires frame { HasPalette from.now position.now }
-    requires inside { (n ≤ 64) × (position.now.x + n ≤ position.now.width) }
-    requires block { length values.old ≡ 256 }
-    ensures set { Holds W.number values.new 4 n (λ v i.
-        slice_index (palette_colours from.now (pixel_at position.now i)) v) }
+    requires indices { x + n ≤ length indices.now }
+    requires palette { 1024 ≤ length palette.now }
+    requires block { (n ≤ 64) × (length values.old ≡ 256) }
+    ensures set { Holds W.number values.new 4 n
+        (λ v i. colour_in indices.now palette.now (x + i) (colour_byte v)) }
     ensures small { AreBelow W.number values.new 4 (2 ^ 8) }
 {
-    let start = pixel_number(position);
-    let table = pixel_count(position);
     for v in 0..4 {
-        read_colour(from, start, table, colour_byte(v), n, v, values);
+        read_colour(indices, palette, x, colour_byte(v), n, v, values);
     }
 }

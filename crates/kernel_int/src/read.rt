@@ -1,16 +1,17 @@
-// The elements of the pixels of a block, read from a frame.
+// The elements of the pixels of a block, read from the rows of planes.
 ghost use Rattle.std.specs.Prelude.{◌≡◌, ℕ, ◌+◌, ◌*◌, ◌^◌, ◌<◌, ◌≤◌, ◌⊎◌, true, length, sum};
-ghost use Rattle.std.specs.Prelude.{slice_index_or};
+ghost use Rattle.std.specs.Prelude.{slice_index, slice_index_or};
 ghost use Rattle.op_list.specs.Types.{bits, bytes, is_whole_type};
-ghost use Rattle.op_list.specs.Pixel.{element, element_of, pixel_count, HasElements};
+ghost use Rattle.op_list.specs.Pixel.{element};
 ghost use Rattle.op_list.specs.declared.types.PixType.TheVariants.{U8, U16, U32};
-ghost use Rattle.kernel_int.specs.Block.{pixel_at, Holds, AreBelow};
+ghost use Rattle.kernel_int.specs.Block.{Holds, AreBelow};
+ghost use Rattle.kernel_int.specs.Planes.{row_at, row_element, rows_of};
 
-use crate::counts::total;
 use crate::gather::{gather_bytes, gather_double_words, gather_words};
-use crate::stride::{Stride, stride_of};
+use crate::planes::Planes;
+use crate::stride::Stride;
 use crate::whole_number::WholeNumber;
-use op_list::{PixType, PixelPosition};
+use op_list::PixType;
 
 // Fills value v of the first n pixels.
 fn read_value<W: WholeNumber>(
@@ -107,66 +108,107 @@ fn read_double_words<W: WholeNumber>(
     }
 }
 
-// Fills the first three values of a whole block of bytes, where they stand together and there is a
-// fast way. It answers how many values it filled.
+// Fills the three values of a whole block of bytes, where they are all of a plane, the first, and
+// there is a fast way. It answers how many values it filled.
 fn read_three<W: WholeNumber>(
     elem: PixType,
-    planes: &[u8; 4],
+    count: usize,
+    before: usize,
     from: &[u8],
-    position: &PixelPosition,
+    x: usize,
     n: usize,
     values: &mut [W],
 ) -> usize
-    requires frame { HasElements elem planes.now from.now position.now }
-    requires inside { (n ≤ 64) × (position.now.x + n ≤ position.now.width) }
+    requires room { (x + n) * count * bytes elem ≤ length from.now }
     requires block { length values.old ≡ 256 }
-    ensures few { result ≤ sum planes.now }
-    ensures set { Holds W.number values.new result n
-        (λ v i. element_of elem planes.now from.now (pixel_at position.now i) v) }
-    ensures small { AreBelow W.number values.new result (2 ^ bits elem) }
-    ensures rest { (j : ℕ) (d : W) → 64 * result ≤ j → j < 256
+    ensures few { result ≤ count }
+    ensures first { (before ≡ 0) ⊎ (result ≡ 0) }
+    ensures set { (e i : ℕ) (d : W) → e < result → i < n
+        → W.number (slice_index_or values.new (64 * e + i) d)
+        ≡ element elem from.now ((x + i) * count + e) }
+    ensures kept { (j : ℕ) (d : W) → 64 * result ≤ j → j < 256
         → slice_index_or values.new j d ≡ slice_index_or values.old j d }
+    ensures small { AreBelow W.number values.old 4 (2 ^ bits elem)
+        → AreBelow W.number values.new 4 (2 ^ bits elem) }
 {
     let PixType::U8 = elem else {
         return 0;
     };
-    if planes[0] != 3 {
+    if before != 0 {
+        return 0;
+    }
+    if count != 3 {
         return 0;
     }
     if n != 64 {
         return 0;
     }
-    let stride = stride_of(position, planes, 0);
-    if W::split_three(from, stride.start, values) {
+    if W::split_three(from, x * 3, values) {
         3
     } else {
         0
     }
 }
 
-// Fills the four values of the first n pixels, and those of the others with 0.
-pub fn read_block<W: WholeNumber>(
+// Fills the values of a plane for n pixels from x on: value `before` + e is element e of a pixel.
+fn read_plane<W: WholeNumber>(
     elem: PixType,
-    planes: &[u8; 4],
+    count: usize,
+    before: usize,
     from: &[u8],
-    position: &PixelPosition,
+    x: usize,
     n: usize,
     values: &mut [W],
 )
     requires bits { 2 ^ bits elem ≤ 2 ^ W.bits }
-    requires frame { HasElements elem planes.now from.now position.now }
-    requires inside { (n ≤ 64) × (position.now.x + n ≤ position.now.width) }
-    requires block { length values.old ≡ 256 }
+    requires whole { is_whole_type elem ≡ true }
+    requires few { before + count ≤ 4 }
+    requires room { (x + n) * count * bytes elem ≤ length from.now }
+    requires block { (0 < n) × (n ≤ 64) × (length values.old ≡ 256) }
+    ensures set { (e i : ℕ) (d : W) → e < count → i < n
+        → W.number (slice_index_or values.new (64 * (before + e) + i) d)
+        ≡ element elem from.now ((x + i) * count + e) }
+    ensures kept { (j : ℕ) (d : W) → (j < 64 * before) ⊎ ((64 * (before + count) ≤ j) × (j < 256))
+        → slice_index_or values.new j d ≡ slice_index_or values.old j d }
+    ensures small { AreBelow W.number values.old 4 (2 ^ bits elem)
+        → AreBelow W.number values.new 4 (2 ^ bits elem) }
+{
+    let done = read_three(elem, count, before, from, x, n, values);
+    for e in done..count {
+        let stride = Stride {
+            start: x * count + e,
+            step: count,
+        };
+        read_value(elem, from, stride, n, before + e, values);
+    }
+}
+
+// Fills the four values of n pixels from x on, and those of the others with 0.
+pub fn read_block<W: WholeNumber>(
+    elem: PixType,
+    planes: &[u8; 4],
+    input: &Planes<'_>,
+    x: usize,
+    n: usize,
+    values: &mut [W],
+)
+    requires bits { 2 ^ bits elem ≤ 2 ^ W.bits }
+    requires whole { is_whole_type elem ≡ true }
+    requires few { sum planes.now ≤ 4 }
+    requires rows { (p : ℕ) → p < 4
+        → (x + n) * slice_index planes.now p * bytes elem ≤ length (row_at (rows_of input.now) p) }
+    requires block { (0 < n) × (n ≤ 64) × (length values.old ≡ 256) }
     ensures set { Holds W.number values.new 4 n
-        (λ v i. element_of elem planes.now from.now (pixel_at position.now i) v) }
+        (λ v i. row_element elem planes.now (rows_of input.now) (x + i) v) }
     ensures small { AreBelow W.number values.new 4 (2 ^ bits elem) }
 {
     for value in values.iter_mut() {
         *value = W::narrow(0);
     }
-    let first = read_three(elem, planes, from, position, n, values);
-    for v in first..total(planes) {
-        let stride = stride_of(position, planes, v);
-        read_value(elem, from, stride, n, v, values);
+    let mut before = 0;
+    for p in 0..4 {
+        let count = usize::from(planes[p]);
+        read_plane(elem, count, before, input.row(p), x, n, values);
+        before += count;
     }
 }

@@ -1,14 +1,16 @@
 // A list of operations on a row of pixels.
-ghost use Rattle.std.specs.Prelude.{◌≡◌, ℕ, ◌*◌, ◌<◌, ◌≤◌, length, sum, slice_index};
-ghost use Rattle.op_list.specs.declared.position.PixelPosition.{PixelPosition};
-ghost use Rattle.op_list.specs.Pixel.{element_of, frame_length};
-ghost use Rattle.op_list.specs.Run.{run, read_length};
-ghost use Rattle.kernel_int.specs.Block.{IsOtherRow, position_at};
-ghost use Rattle.kernel_int.specs.Forms.{IsKernel, last_op, planes_of, elem_of};
+ghost use Rattle.std.specs.Prelude.{◌≡◌, ℕ, ◌*◌, ◌<◌, ◌≤◌, length, sum, slice_index, []};
+ghost use Rattle.op_list.specs.Pixel.{element_of};
+ghost use Rattle.op_list.specs.Run.{run};
+ghost use Rattle.kernel_int.specs.Block.{position_at};
+ghost use Rattle.kernel_int.specs.Forms.{IsKernel, last_op, op_at, planes_of, elem_of};
+ghost use Rattle.kernel_int.specs.Planes.{AreRows, palette_length, row_frame, row_list};
+ghost use Rattle.kernel_int.specs.Planes.{rows_of};
 
 use crate::block::run_block;
 use crate::form::Form;
 use crate::numerator::Numerator;
+use crate::planes::Planes;
 use crate::whole_number::WholeNumber;
 use op_list::{Op, PixelPosition};
 
@@ -16,11 +18,12 @@ use op_list::{Op, PixelPosition};
 pub fn run_blocks<W: WholeNumber, N: Numerator>(
     ops: &[Op],
     forms: &[Form],
-    from: &[u8],
-    to: &mut [u8],
+    input: &Planes<'_>,
+    first: &mut [u8],
+    second: &mut [u8],
+    third: &mut [u8],
+    fourth: &mut [u8],
     width: u32,
-    rows: u32,
-    row: u32,
     y: u32,
     values: &mut [W],
     spare: &mut [W],
@@ -28,31 +31,32 @@ pub fn run_blocks<W: WholeNumber, N: Numerator>(
     sums: &mut [N],
 )
     requires kernel { IsKernel ops.now forms.now W.bits N.width }
-    requires from { length from.now ≡ read_length ops.now width rows }
-    requires to { length to.old ≡ frame_length (last_op ops.now) width rows }
-    requires row { row < rows }
+    requires input { AreRows (op_at ops.now 0) width (rows_of input.now) }
+    requires entries { length input.now.palette.now ≡ palette_length (op_at ops.now 0) }
+    requires output { AreRows (last_op ops.now) width
+        (row_list first.old second.old third.old fourth.old) }
     requires block { (length values.old ≡ 256) × (length spare.old ≡ 256)
         × (length numbers.old ≡ 256) × (length sums.old ≡ 256) }
     ensures stored { (x v : ℕ) → x < width → v < sum (planes_of (last_op ops.now))
-        → element_of (elem_of (last_op ops.now)) (planes_of (last_op ops.now)) to.new
-        (position_at width rows row y x) v
-        ≡ slice_index (run ops.now from.now width rows x row y) v }
-    ensures others { (other : PixelPosition) → IsOtherRow width rows row other → (v : ℕ)
-        → element_of (elem_of (last_op ops.now)) (planes_of (last_op ops.now)) to.new other v
-        ≡ element_of (elem_of (last_op ops.now)) (planes_of (last_op ops.now)) to.old other v }
+        → element_of (elem_of (last_op ops.now)) (planes_of (last_op ops.now))
+        (row_frame (row_list first.new second.new third.new fourth.new) [])
+        (position_at width 1 0 y x) v
+        ≡ slice_index (run ops.now (row_frame (rows_of input.now) input.now.palette.now)
+        width 1 x 0 y) v }
 {
     for block in 0..width.div_ceil(64) {
         let start = block * 64;
         let position = PixelPosition {
             width,
-            rows,
+            rows: 1,
             x: start,
-            row,
+            row: 0,
             y,
         };
         let n = (width - start).min(64) as usize;
         run_block(
-            ops, forms, from, &position, n, values, spare, numbers, sums, to,
+            ops, forms, input, &position, n, values, spare, numbers, sums, first, second, third,
+            fourth,
         );
     }
 }

@@ -1,17 +1,16 @@
-// The elements of the pixels of a block, written to a frame.
-ghost use Rattle.std.specs.Prelude.{◌≡◌, ◌≢◌, ℕ, ◌+◌, ◌*◌, ◌^◌, ◌<◌, ◌≤◌, true, length, sum};
-ghost use Rattle.std.specs.Prelude.{slice_index_or};
-ghost use Rattle.op_list.specs.declared.position.PixelPosition.{PixelPosition};
+// The elements of the pixels of a block, written to the rows of planes.
+ghost use Rattle.std.specs.Prelude.{◌≡◌, ◌≢◌, ℕ, ◌+◌, ◌*◌, ◌^◌, ◌<◌, ◌≤◌, ◌⊎◌, true, length, sum};
+ghost use Rattle.std.specs.Prelude.{slice_index, slice_index_or};
 ghost use Rattle.op_list.specs.Types.{bits, bytes, is_whole_type};
-ghost use Rattle.op_list.specs.Pixel.{element, element_of, HasElements};
+ghost use Rattle.op_list.specs.Pixel.{element};
 ghost use Rattle.op_list.specs.declared.types.PixType.TheVariants.{U8, U16, U32};
-ghost use Rattle.kernel_int.specs.Block.{pixel_at, AreBelow, IsOutside};
+ghost use Rattle.kernel_int.specs.Block.{AreBelow};
+ghost use Rattle.kernel_int.specs.Planes.{row_at, row_element, row_list};
 
-use crate::counts::total;
 use crate::scatter::{scatter_bytes, scatter_double_words, scatter_words};
-use crate::stride::{Stride, stride_of};
+use crate::stride::Stride;
 use crate::whole_number::WholeNumber;
-use op_list::{PixType, PixelPosition};
+use op_list::PixType;
 
 // Sets value v of the first n pixels.
 fn write_value<W: WholeNumber>(
@@ -112,65 +111,113 @@ fn write_double_words<W: WholeNumber>(
     }
 }
 
-// Writes the first three values of a whole block of bytes, where they stand together and there is a
-// fast way. It answers how many values it wrote.
+// Writes the three values of a whole block of bytes, where they are all of a plane, the first, and
+// there is a fast way. It answers how many values it wrote.
 fn write_three<W: WholeNumber>(
     elem: PixType,
-    planes: &[u8; 4],
+    count: usize,
+    before: usize,
     values: &[W],
-    position: &PixelPosition,
+    x: usize,
     n: usize,
     to: &mut [u8],
 ) -> usize
-    requires frame { HasElements elem planes.now to.old position.now }
-    requires inside { (n ≤ 64) × (position.now.x + n ≤ position.now.width) }
+    requires room { (x + n) * count * bytes elem ≤ length to.old }
     requires block { length values.now ≡ 256 }
-    ensures few { result ≤ sum planes.now }
-    ensures stored { (v i : ℕ) (d : W) → v < result → i < n
-        → element_of elem planes.now to.new (pixel_at position.now i) v
-        ≡ W.number (slice_index_or values.now (64 * v + i) d) }
-    ensures others { (other : PixelPosition) → IsOutside position.now n other → (v : ℕ)
-        → element_of elem planes.now to.new other v ≡ element_of elem planes.now to.old other v }
+    ensures few { result ≤ count }
+    ensures first { (before ≡ 0) ⊎ (result ≡ 0) }
+    ensures set { (e i : ℕ) (d : W) → e < result → i < n
+        → element elem to.new ((x + i) * count + e)
+        ≡ W.number (slice_index_or values.now (64 * e + i) d) }
+    ensures kept { (k : ℕ) → (k < x * count) ⊎ ((x + n) * count ≤ k)
+        → element elem to.new k ≡ element elem to.old k }
 {
     let PixType::U8 = elem else {
         return 0;
     };
-    if planes[0] != 3 {
+    if before != 0 {
+        return 0;
+    }
+    if count != 3 {
         return 0;
     }
     if n != 64 {
         return 0;
     }
-    let stride = stride_of(position, planes, 0);
-    if W::join_three(values, stride.start, to) {
+    if W::join_three(values, x * 3, to) {
         3
     } else {
         0
     }
 }
 
-// Writes the elements of the first n pixels, and changes no others.
+// Writes the values of a plane for n pixels from x on: element e of a pixel is value `before` + e.
+fn write_plane<W: WholeNumber>(
+    elem: PixType,
+    count: usize,
+    before: usize,
+    values: &[W],
+    x: usize,
+    n: usize,
+    to: &mut [u8],
+)
+    requires whole { is_whole_type elem ≡ true }
+    requires small { AreBelow W.number values.now (before + count) (2 ^ bits elem) }
+    requires few { before + count ≤ 4 }
+    requires room { (x + n) * count * bytes elem ≤ length to.old }
+    requires block { (0 < n) × (n ≤ 64) × (length values.now ≡ 256) }
+    ensures set { (e i : ℕ) (d : W) → e < count → i < n
+        → element elem to.new ((x + i) * count + e)
+        ≡ W.number (slice_index_or values.now (64 * (before + e) + i) d) }
+    ensures kept { (k : ℕ) → (k < x * count) ⊎ ((x + n) * count ≤ k)
+        → element elem to.new k ≡ element elem to.old k }
+{
+    let done = write_three(elem, count, before, values, x, n, to);
+    for e in done..count {
+        let stride = Stride {
+            start: x * count + e,
+            step: count,
+        };
+        write_value(elem, values, before + e, n, stride, to);
+    }
+}
+
+// Writes the elements of n pixels from x on, and changes no others.
 pub fn write_block<W: WholeNumber>(
     elem: PixType,
     planes: &[u8; 4],
     values: &[W],
-    position: &PixelPosition,
+    x: usize,
     n: usize,
-    to: &mut [u8],
+    first: &mut [u8],
+    second: &mut [u8],
+    third: &mut [u8],
+    fourth: &mut [u8],
 )
+    requires whole { is_whole_type elem ≡ true }
+    requires few { sum planes.now ≤ 4 }
     requires small { AreBelow W.number values.now (sum planes.now) (2 ^ bits elem) }
-    requires frame { HasElements elem planes.now to.old position.now }
-    requires inside { (n ≤ 64) × (position.now.x + n ≤ position.now.width) }
-    requires block { length values.now ≡ 256 }
+    requires rows { (p : ℕ) → p < 4
+        → (x + n) * slice_index planes.now p * bytes elem
+        ≤ length (row_at (row_list first.old second.old third.old fourth.old) p) }
+    requires block { (0 < n) × (n ≤ 64) × (length values.now ≡ 256) }
     ensures stored { (v i : ℕ) (d : W) → v < sum planes.now → i < n
-        → element_of elem planes.now to.new (pixel_at position.now i) v
+        → row_element elem planes.now (row_list first.new second.new third.new fourth.new) (x + i) v
         ≡ W.number (slice_index_or values.now (64 * v + i) d) }
-    ensures others { (other : PixelPosition) → IsOutside position.now n other → (v : ℕ)
-        → element_of elem planes.now to.new other v ≡ element_of elem planes.now to.old other v }
+    ensures others { (other v : ℕ) → (other < x) ⊎ (x + n ≤ other)
+        → row_element elem planes.now (row_list first.new second.new third.new fourth.new) other v
+        ≡ row_element elem planes.now
+        (row_list first.old second.old third.old fourth.old) other v }
 {
-    let first = write_three(elem, planes, values, position, n, to);
-    for v in first..total(planes) {
-        let stride = stride_of(position, planes, v);
-        write_value(elem, values, v, n, stride, to);
-    }
+    let [a, b, c, d] = *planes;
+    let (a, b, c, d) = (
+        usize::from(a),
+        usize::from(b),
+        usize::from(c),
+        usize::from(d),
+    );
+    write_plane(elem, a, 0, values, x, n, first);
+    write_plane(elem, b, a, values, x, n, second);
+    write_plane(elem, c, a + b, values, x, n, third);
+    write_plane(elem, d, a + b + c, values, x, n, fourth);
 }

@@ -4,39 +4,45 @@ use Rattle.op_list.specs.declared.op.Op.TheVariants.{SwapBytes}
 use Rattle.op_list.specs.declared.types.Stage.TheVariants.{Start}
 use Rattle.op_list.specs.Types.{bits, bits_at}
 use Rattle.op_list.specs.Typing.{stage_after}
-use Rattle.op_list.specs.Pixel.{frame_length}
 use Rattle.kernel_int.specs.Forms.{form_at, stage_before, op_at, last_op, elem_of}
-use Rattle.kernel_int.proofs.Kernels.{at_least_two, first_follows, first_good, read_length_first, first_stage, first_state, first_bounded}
+use Rattle.kernel_int.specs.Planes.{row_frame, rows_of}
+use Rattle.kernel_int.proofs.Kernels.{at_least_two, first_follows, first_good, first_stage, first_state, first_bounded}
 use Rattle.kernel_int.proofs.Kernels.{written_run, last_good, last_whole, last_bits, last_writes, some_element}
 use Rattle.kernel_int.proofs.block.run_block.Goals as goal
 
 pub bounds-ops-0 : goal.bounds-ops-0
 bounds-ops-0 g c = let two = at_least_two c.args.ops.now c.requires.kernel.whole c.requires.kernel.typed in omega arith
 
-pub read_first-first-requires-clause-follows : goal.read_first-first-requires-clause-follows
-read_first-first-requires-clause-follows g c =
+pub read_first-stage-requires-clause-follows : goal.read_first-stage-requires-clause-follows
+read_first-stage-requires-clause-follows g c =
     let some : 0 < length c.args.ops.now = let two = at_least_two c.args.ops.now c.requires.kernel.whole c.requires.kernel.typed
     in omega arith in
     let same : c.index-ops-0.result ≡ op_at c.args.ops.now 0 = c.index-ops-0.is ∙ get_or_default c.args.ops.now 0 _ SwapBytes some in
     rw same (first_follows c.args.ops.now c.requires.kernel.typed some)
 
-pub read_first-first-requires-clause-good : goal.read_first-first-requires-clause-good
-read_first-first-requires-clause-good g c =
+pub read_first-stage-requires-clause-good : goal.read_first-stage-requires-clause-good
+read_first-stage-requires-clause-good g c =
     let some : 0 < length c.args.ops.now = let two = at_least_two c.args.ops.now c.requires.kernel.whole c.requires.kernel.typed
     in omega arith in
     let same : c.index-ops-0.result ≡ op_at c.args.ops.now 0 = c.index-ops-0.is ∙ get_or_default c.args.ops.now 0 _ SwapBytes some in
     rw same (first_good c.args.ops.now c.requires.kernel.typed some)
 
-pub read_first-first-requires-clause-from : goal.read_first-first-requires-clause-from
-read_first-first-requires-clause-from g c =
+pub read_first-stage-requires-clause-rows : goal.read_first-stage-requires-clause-rows
+read_first-stage-requires-clause-rows g c =
     let some : 0 < length c.args.ops.now = let two = at_least_two c.args.ops.now c.requires.kernel.whole c.requires.kernel.typed
     in omega arith in
     let same : c.index-ops-0.result ≡ op_at c.args.ops.now 0 = c.index-ops-0.is ∙ get_or_default c.args.ops.now 0 _ SwapBytes some in
-    c.requires.from ∙ read_length_first c.args.ops.now c.args.position.now.width c.args.position.now.rows some
-    ∙ ap (λ o. frame_length o c.args.position.now.width c.args.position.now.rows) (sym same)
+    rw same c.requires.input
 
-pub read_first-first-requires-clause-bits : goal.read_first-first-requires-clause-bits
-read_first-first-requires-clause-bits g c =
+pub read_first-stage-requires-clause-entries : goal.read_first-stage-requires-clause-entries
+read_first-stage-requires-clause-entries g c =
+    let some : 0 < length c.args.ops.now = let two = at_least_two c.args.ops.now c.requires.kernel.whole c.requires.kernel.typed
+    in omega arith in
+    let same : c.index-ops-0.result ≡ op_at c.args.ops.now 0 = c.index-ops-0.is ∙ get_or_default c.args.ops.now 0 _ SwapBytes some in
+    rw same c.requires.entries
+
+pub read_first-stage-requires-clause-bits : goal.read_first-stage-requires-clause-bits
+read_first-stage-requires-clause-bits g c =
     let some : 0 < length c.args.ops.now = let two = at_least_two c.args.ops.now c.requires.kernel.whole c.requires.kernel.typed
     in omega arith in
     let same : c.index-ops-0.result ≡ op_at c.args.ops.now 0 = c.index-ops-0.is ∙ get_or_default c.args.ops.now 0 _ SwapBytes some in
@@ -50,7 +56,7 @@ run_steps-requires-clause-first g c =
     let some : 0 < length c.args.ops.now = let two = at_least_two c.args.ops.now c.requires.kernel.whole c.requires.kernel.typed
     in omega arith in
     let same : c.index-ops-0.result ≡ op_at c.args.ops.now 0 = c.index-ops-0.is ∙ get_or_default c.args.ops.now 0 _ SwapBytes some in
-    c.read_first-first.ensures.stage ∙ ap (stage_after Start) same ∙ sym (first_stage c.args.ops.now some)
+    c.read_first-stage.ensures.stage ∙ ap (stage_after Start) same ∙ sym (first_stage c.args.ops.now some)
 
 pub run_steps-requires-clause-bounded : goal.run_steps-requires-clause-bounded
 run_steps-requires-clause-bounded g c =
@@ -58,8 +64,8 @@ run_steps-requires-clause-bounded g c =
     in omega arith in
     let same : c.index-ops-0.result ≡ op_at c.args.ops.now 0 = c.index-ops-0.is ∙ get_or_default c.args.ops.now 0 _ SwapBytes some in
     first_bounded g.W.WholeNumber.number g.N.Numerator.value c.args.ops.now
-    (form_at c.args.forms.now 0) c.read_first-first.new.values c.args.numbers.now c.requires.kernel.typed some (c.requires.kernel.few 0)
-    (rw same at c.read_first-first.ensures.small)
+    (form_at c.args.forms.now 0) c.read_first-stage.new.values c.args.numbers.now c.requires.kernel.typed some (c.requires.kernel.few 0)
+    (rw same at c.read_first-stage.ensures.small)
 
 pub overflow_sub-ops : goal.overflow_sub-ops
 overflow_sub-ops g c = let two = at_least_two c.args.ops.now c.requires.kernel.whole c.requires.kernel.typed in omega arith
@@ -83,13 +89,13 @@ write_last-requires-clause-good g c =
     ∙ get_or_default c.args.ops.now (length c.args.ops.now - 1) _ SwapBytes (omega arith) in
     rw same (last_good c.args.ops.now c.requires.kernel.typed c.requires.kernel.whole some)
 
-pub write_last-requires-clause-to : goal.write_last-requires-clause-to
-write_last-requires-clause-to g c =
+pub write_last-requires-clause-rows : goal.write_last-requires-clause-rows
+write_last-requires-clause-rows g c =
     let some : 0 < length c.args.ops.now = let two = at_least_two c.args.ops.now c.requires.kernel.whole c.requires.kernel.typed
     in omega arith in
     let same : c.index-ops-ops.result ≡ last_op c.args.ops.now = c.index-ops-ops.is
     ∙ get_or_default c.args.ops.now (length c.args.ops.now - 1) _ SwapBytes (omega arith) in
-    c.requires.to ∙ ap (λ o. frame_length o c.args.position.now.width c.args.position.now.rows) (sym same)
+    rw same c.requires.output
 
 pub write_last-requires-clause-small : goal.write_last-requires-clause-small
 write_last-requires-clause-small g c =
@@ -112,15 +118,16 @@ returns-clause-stored g c =
     let same : c.index-ops-ops.result ≡ last_op ops = c.index-ops-ops.is ∙ get_or_default ops (length ops - 1) _ SwapBytes (omega arith) in
     let first : c.index-ops-0.result ≡ op_at ops 0 = c.index-ops-0.is ∙ get_or_default ops 0 _ SwapBytes some in
     let d = some_element c.run_steps.new.values (omega arith) in
+    let frame = row_frame (rows_of c.args.input.now) c.args.input.now.palette.now in
     let start = first_state g.W.WholeNumber.number g.N.Numerator.value ops
-    (form_at c.args.forms.now 0) c.args.from.now c.args.position.now c.read_first-first.new.values c.args.numbers.now c.args.n
-    c.requires.kernel.typed some (c.requires.kernel.few 0) (rw first at c.read_first-first.ensures.set) in
-    let state = c.run_steps.ensures.holds c.args.from.now c.args.n (omega arith) start in
+    (form_at c.args.forms.now 0) frame c.args.position.now c.read_first-stage.new.values c.args.numbers.now c.args.n
+    c.requires.kernel.typed some (c.requires.kernel.few 0) (rw first at c.read_first-stage.ensures.set) in
+    let state = c.run_steps.ensures.holds frame c.args.n (omega arith) start in
     let stored = rw same at c.write_last.ensures.stored in
     stored v i d below within
     ∙ state.whole (last_whole ops c.requires.kernel.typed c.requires.kernel.whole some) v i d
     (omega (arith, below, c.requires.kernel.last)) within
-    ∙ written_run ops c.args.from.now c.args.position.now i v c.requires.kernel.typed c.requires.kernel.whole some below
+    ∙ written_run ops frame c.args.position.now i v c.requires.kernel.typed c.requires.kernel.whole some below
 
 pub returns-clause-others : goal.returns-clause-others
 returns-clause-others g c =

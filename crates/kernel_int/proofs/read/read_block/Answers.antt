@@ -1,55 +1,58 @@
-use Rattle.std.proofs.Common.{◌≡◌, ◌+◌, ◌*◌, ◌^◌, ◌<◌, ◌≤◌, ⊎_elim, inr, ap, sym, subst, ◌∙◌, arith}
+use Rattle.std.proofs.Common.{◌≡◌, ℕ, ◌+◌, ◌*◌, ◌^◌, ◌<◌, ◌≤◌, inl, inr, ⊎_elim, ap, sym, ◌∙◌, arith, below_more, slice_index, slice_index_or, take}
 use Rattle.std.specs.Prelude.{sum}
 use Rattle.std.proofs.lemmas.Bool.{cases_lt}
-use Rattle.op_list.specs.Types.{bits}
-use Rattle.op_list.specs.Pixel.{element_in, element_of, pixel_count, pixel_number}
-use Rattle.op_list.proofs.Stored.{element_of-past}
-use Rattle.kernel_int.specs.Block.{pixel_at}
-use Rattle.kernel_int.proofs.Positions.{step_bounds, lane_ends, lane_element, element_small}
-use Rattle.kernel_int.proofs.Blocks.{hold_more, below_kept}
+use Rattle.std.proofs.lemmas.List.{get_or_past, take_all}
+use Rattle.op_list.specs.Pixel.{element}
+use Rattle.kernel_int.specs.Planes.{row_at, rows_of}
+use Rattle.kernel_int.proofs.PlaneRows.{by_plane, element_past, plane_more, plane_within}
 use Rattle.kernel_int.proofs.read.read_block.Goals as goal
 
-pub read_value-requires-clause-step : goal.read_value-requires-clause-step
-read_value-requires-clause-step g c =
-    let within : c.loop-v.v < sum c.args.planes.now = omega arith in
-    let b = step_bounds c.args.planes.now c.loop-v.v within in
-    rw c.stride_of-stride.ensures.step (b.0, omega (arith, b.1, c.requires.frame.few))
-
-pub read_value-requires-clause-room : goal.read_value-requires-clause-room
-read_value-requires-clause-room g c =
-    λ i below.
-    rw (c.stride_of-stride.ensures.start, c.stride_of-stride.ensures.step)
-    (lane_ends c.args.elem c.args.planes.now c.args.from.now c.args.position.now i c.args.n c.loop-v.v c.requires.frame below (omega arith)
-    (omega arith))
-
-pub loop-v-preserved : goal.loop-v-preserved
-loop-v-preserved g c =
-    let v = c.loop-v.v in
-    let within : v < sum c.args.planes.now = omega arith in
-    let few : c.args.n ≤ 64 = omega arith in
-    let start : c.stride_of-stride.result.start ≡ element_in (pixel_count c.args.position.now)
-    (pixel_number c.args.position.now) 0 c.args.planes.now v = c.stride_of-stride.ensures.start in
+pub loop-p-preserved : goal.loop-p-preserved
+loop-p-preserved g c =
+    let planes = c.args.planes.now in
+    let rows = rows_of c.args.input.now in
+    let p = c.loop-p.p in
+    let number = g.W.WholeNumber.number in
+    let values = c.read_plane.new.values in
+    let count : c.from-count.result ≡ slice_index planes p = omega arith in
+    let next : c.loop-p.before + c.from-count.result ≡ sum (take (p + 1) planes) =
+    omega (arith, count, c.loop-p.invariant.before, plane_more planes p) in
     record {
-      set = hold_more g.W.WholeNumber.number c.loop-v.values c.read_value.new.values
-          (λ u i. element_of c.args.elem c.args.planes.now c.args.from.now (pixel_at c.args.position.now i) u) v c.args.n few
-          (λ i d below. c.read_value.ensures.set i d below
-          ∙ (rw (start, c.stride_of-stride.ensures.step) (sym
-          (lane_element c.args.elem c.args.planes.now c.args.from.now c.args.position.now i v within))))
-          c.read_value.ensures.kept c.loop-v.invariant.set;
-      zero = λ j d past below. ap g.W.WholeNumber.number (c.read_value.ensures.kept j d (inr (omega arith)))
-          ∙ c.loop-v.invariant.zero j d (omega arith) below;
-      small = below_kept g.W.WholeNumber.number c.loop-v.values c.read_value.new.values v c.args.n 4 (2 ^ bits c.args.elem) few
-          (λ i d below. subst (λ t. t < 2 ^ bits c.args.elem) (sym (c.read_value.ensures.set i d below))
-          (element_small c.args.elem c.args.from.now _ (λ k. (c.type_inv.from k).fits)))
-          c.read_value.ensures.kept c.loop-v.invariant.small;
+      before = next;
+      set = λ q e i d less below within.
+          below_more (λ q. (e : ℕ) → e < slice_index planes q → number (slice_index_or values (64 * (sum (take q planes) + e) + i) d)
+          ≡ element c.args.elem (row_at rows q) ((c.args.x + i) * slice_index planes q + e)) p
+          (λ q earlier e below.
+          let before : sum (take q planes) + slice_index planes q ≤ sum (take p planes) = plane_within planes q p earlier in
+          ap number (c.read_plane.ensures.kept (64 * (sum (take q planes) + e) + i) d
+          (inl (omega (arith, before, below, within, c.loop-p.invariant.before))))
+          ∙ c.loop-p.invariant.set q e i d earlier below within)
+          (λ e below. (rw (count, c.loop-p.invariant.before, c.row.ensures) at c.read_plane.ensures.set) e i d below within)
+          q less e below;
+      zero = λ j d past below. ap number (c.read_plane.ensures.kept j d (inr (omega arith, below)))
+          ∙ c.loop-p.invariant.zero j d (omega (arith, past)) below;
+      small = c.read_plane.ensures.small c.loop-p.invariant.small;
     }
 
 pub returns-clause-set : goal.returns-clause-set
 returns-clause-set g c =
     λ v i d below within.
+    let planes = c.args.planes.now in
+    let rows = rows_of c.args.input.now in
+    let number = g.W.WholeNumber.number in
+    let all : c.loop-p.p ≡ 4 = omega arith in
     ⊎_elim
-    (λ (here : v < sum c.args.planes.now). c.loop-v.invariant.set v i d (omega arith) within)
-    (λ (past : sum c.args.planes.now ≤ v).
-    c.loop-v.invariant.zero (64 * v + i) d (omega arith) (omega arith)
-    ∙ sym (element_of-past c.args.elem c.args.planes.now c.args.from.now (pixel_at c.args.position.now i) v past))
-    (cases_lt v (sum c.args.planes.now))
+    (λ (here : v < sum planes).
+    by_plane c.args.elem planes rows (c.args.x + i) v (number (slice_index_or c.loop-p.values (64 * v + i) d)) here
+    (λ p e inside is.
+    let some : p < 4 =
+    ⊎_elim (λ (lt : p < 4). lt)
+    (λ (ge : 4 ≤ p). let none : slice_index planes p ≡ 0 = get_or_past planes p 0 (omega arith) in absurd (omega (arith, none, inside)))
+    (cases_lt p 4) in
+    ap (λ t. number (slice_index_or c.loop-p.values (64 * t + i) d)) is
+    ∙ c.loop-p.invariant.set p e i d (omega (arith, some, all)) inside within))
+    (λ (past : sum planes ≤ v).
+    let before : c.loop-p.before ≡ sum planes = c.loop-p.invariant.before ∙ ap sum (take_all c.loop-p.p planes (omega arith)) in
+    c.loop-p.invariant.zero (64 * v + i) d (omega (arith, past, before)) (omega (arith, below, within))
+    ∙ sym (element_past c.args.elem planes rows (c.args.x + i) v past))
+    (cases_lt v (sum planes))

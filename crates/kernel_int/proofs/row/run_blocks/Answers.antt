@@ -1,43 +1,55 @@
-use Rattle.std.proofs.Common.{◌≡◌, ℕ, ◌+◌, ◌-◌, ◌*◌, ◌<◌, ◌≤◌, ⊎_elim, ◌∙◌, arith, subst}
+use Rattle.std.proofs.Common.{◌≡◌, ℕ, ◌+◌, ◌-◌, ◌*◌, ◌<◌, ◌≤◌, inl, refl, ⊎_elim, ◌∙◌, arith, subst, []}
 use Rattle.std.specs.Prelude.{sum}
 use Rattle.std.proofs.lemmas.Bool.{cases_lt}
 use Rattle.op_list.specs.declared.types.Stage.TheVariants.{Start}
-use Rattle.op_list.specs.declared.position.PixelPosition.{PixelPosition}
-use Rattle.op_list.specs.Pixel.{element_of}
 use Rattle.op_list.specs.Values.{number, no_values}
 use Rattle.op_list.specs.Run.{run_from}
 use Rattle.kernel_int.specs.Block.{position_at}
 use Rattle.kernel_int.specs.Forms.{last_op, planes_of, elem_of}
-use Rattle.kernel_int.proofs.Rows.{other_row_outside, earlier_outside}
-use Rattle.kernel_int.proofs.Kernels.{run_value, written_few}
+use Rattle.kernel_int.specs.Planes.{row_element, row_frame, row_length, row_list, rows_of}
+use Rattle.kernel_int.proofs.Kernels.{last_counts, run_value, written_few}
+use Rattle.kernel_int.proofs.RowFrames.{all_sizes, row_of_frame, same_sizes}
 use Rattle.kernel_int.proofs.row.run_blocks.Goals as goal
 
 pub loop-block-preserved : goal.loop-block-preserved
 loop-block-preserved g c =
     let ops = c.args.ops.now in
     let start = c.loop-block.block * 64 in
-    let at : ℕ → PixelPosition = λ x. position_at c.args.width c.args.rows c.args.row c.args.y x in
-    let P : ℕ → ℕ → Type 0 = λ x v. element_of (elem_of (last_op ops)) (planes_of (last_op ops)) c.run_block.new.to (at x) v
-    ≡ number (run_from c.args.from.now (at x) Start ops no_values) v in
+    let frame = row_frame (rows_of c.args.input.now) c.args.input.now.palette.now in
+    let rows = row_list c.run_block.new.first c.run_block.new.second c.run_block.new.third c.run_block.new.fourth in
+    let P : ℕ → ℕ → Type 0 = λ x v. row_element (elem_of (last_op ops)) (planes_of (last_op ops)) rows x v
+    ≡ number (run_from frame (position_at c.args.width 1 0 c.args.y x) Start ops no_values) v in
     record {
       stored = λ x v inside below within.
           ⊎_elim
           (λ (before : x < start).
-          c.run_block.ensures.others (at x) (earlier_outside c.args.width c.args.rows c.args.row c.args.y start _ x c.requires.row inside
-          before) v
-          ∙ c.loop-block.invariant.stored x v inside (omega arith) within)
+          c.run_block.ensures.others x v (inl before) ∙ c.loop-block.invariant.stored x v inside (omega arith) within)
           (λ (here : start ≤ x).
           let same : start + (x - start) ≡ x = omega arith in
           subst (λ t. P t v) same (c.run_block.ensures.stored v (x - start) within (omega arith)))
           (cases_lt x start);
-      others = λ other is v.
-          c.run_block.ensures.others other (other_row_outside c.args.width c.args.rows c.args.row c.args.y start _ other (omega arith) is) v
-          ∙ c.loop-block.invariant.others other is v;
     }
 
-pub returns-clause-stored : goal.returns-clause-stored
-returns-clause-stored g c =
-    λ x v inside within.
-    let few : sum (planes_of (last_op c.args.ops.now)) ≤ 4 = written_few c.args.ops.now c.requires.kernel.typed c.requires.kernel.whole in
-    c.loop-block.invariant.stored x v inside (omega arith) within
-    ∙ run_value c.args.ops.now c.args.from.now c.args.width c.args.rows x c.args.row c.args.y v (omega (arith, few, within))
+pub returns : goal.returns
+returns g c =
+    let ops = c.args.ops.now in
+    let elem = elem_of (last_op ops) in
+    let planes = planes_of (last_op ops) in
+    let first = c.loop-block.first in
+    let second = c.loop-block.second in
+    let third = c.loop-block.third in
+    let fourth = c.loop-block.fourth in
+    let few : sum planes ≤ 4 = written_few ops c.requires.kernel.typed c.requires.kernel.whole in
+    let sizes = same_sizes c.args.first.now c.args.second.now c.args.third.now c.args.fourth.now first second third fourth
+    (row_length (last_op ops) c.args.width)
+    c.loop-block.auto.first c.loop-block.auto.second c.loop-block.auto.third c.loop-block.auto.fourth c.requires.output in
+    record {
+      stored = λ x v inside within.
+          row_of_frame elem planes (row_list first second third fourth) [] (position_at c.args.width 1 0 c.args.y x) v
+          (all_sizes elem planes c.args.width first second third fourth
+          (last_counts ops c.requires.kernel.typed c.requires.kernel.whole) sizes)
+          refl refl inside
+          ∙ c.loop-block.invariant.stored x v inside (omega arith) within
+          ∙ run_value ops (row_frame (rows_of c.args.input.now) c.args.input.now.palette.now) c.args.width 1 x 0 c.args.y v
+          (omega (arith, few, within));
+    }
