@@ -6,7 +6,7 @@ ghost use Rattle.kernel_int.specs.Forms.{factor, width_of};
 ghost use Rattle.kernel_int.specs.ValueSteps.{AreIn, IsAtMost, IsMinimum, MakesValue};
 
 use crate::form::{Extent, NumberWidth};
-use crate::limit::{bring_over_one, hold_inside, unlimited};
+use crate::limit::{bring_over_one, hold_below, unlimited};
 use crate::made::Made;
 use crate::numerator::Numerator;
 use crate::scale::scale;
@@ -32,7 +32,7 @@ pub fn min_value<N: Numerator>(
 {
     match limit {
         None => scale(numbers, v, factors),
-        Some(_) => hold_inside(numbers, v, factors, new),
+        Some(_) => hold_below(numbers, v, factors, new),
     }
 }
 

@@ -1,7 +1,7 @@
 ghost use Rattle.std.specs.Prelude.{◌≡◌, ◌^◌, ℤ, pos, ◌+ℤ◌, ◌*ℤ◌, ◌≤ℤ◌, ◌<ℤ◌, FitsSigned};
 ghost use Rattle.std.specs.Int.{Width, int_div_euclid, w32, w64, w128};
 ghost use Rattle.op_list.specs.Whole.{modulo};
-ghost use Rattle.kernel_int.specs.Rules.{with_product, nearest};
+ghost use Rattle.kernel_int.specs.Rules.{with_product, but_at_least, but_at_most};
 
 /// A numerator, in 32, 64 or 128 bits.
 pub trait Numerator: Copy {
@@ -20,6 +20,14 @@ pub trait Numerator: Copy {
         requires fits { FitsSigned width (with_product (value self) (value from) (value k)) }
         ensures { value result ≡ with_product (value self) (value from) (value k) };
 
+    /// The number with k times another one, both of which 32 bits hold.
+    fn raised_short(self, from: Self, k: Self) -> Self
+        requires from { FitsSigned w32 (value from) }
+        requires k { FitsSigned w32 (value k) }
+        requires product { FitsSigned width (value k *ℤ value from) }
+        requires fits { FitsSigned width (with_product (value self) (value from) (value k)) }
+        ensures { value result ≡ with_product (value self) (value from) (value k) };
+
     /// k times the number.
     fn times(self, k: Self) -> Self
         requires { FitsSigned width (value k *ℤ value self) }
@@ -30,9 +38,13 @@ pub trait Numerator: Copy {
         requires { FitsSigned width (value self +ℤ value addend) }
         ensures { value result ≡ value self +ℤ value addend };
 
-    /// The number from `least` to `greatest` that is nearest to it.
-    fn limited(self, least: Self, greatest: Self) -> Self
-        ensures { value result ≡ nearest (value least) (value greatest) (value self) };
+    /// The number, but at least a limit.
+    fn but_at_least(self, least: Self) -> Self
+        ensures { value result ≡ but_at_least (value least) (value self) };
+
+    /// The number, but at most a limit.
+    fn but_at_most(self, greatest: Self) -> Self
+        ensures { value result ≡ but_at_most (value greatest) (value self) };
 
     /// The number, where 32 bits hold it.
     fn low(self) -> u32
@@ -66,6 +78,11 @@ impl Numerator for i32 {
         self + k * from
     }
 
+    #[tactic(auto, unfolding(crate::specs::Rules::with_product))]
+    fn raised_short(self, from: i32, k: i32) -> i32 {
+        self + k * from
+    }
+
     fn times(self, k: i32) -> i32 {
         k * self
     }
@@ -74,9 +91,14 @@ impl Numerator for i32 {
         self + addend
     }
 
-    #[tactic(auto, unfolding(crate::specs::Rules::nearest))]
-    fn limited(self, least: i32, greatest: i32) -> i32 {
-        self.max(least).min(greatest)
+    #[tactic(auto, unfolding(crate::specs::Rules::but_at_least))]
+    fn but_at_least(self, least: i32) -> i32 {
+        self.max(least)
+    }
+
+    #[tactic(auto, unfolding(crate::specs::Rules::but_at_most))]
+    fn but_at_most(self, greatest: i32) -> i32 {
+        self.min(greatest)
     }
 
     fn low(self) -> u32 {
@@ -106,6 +128,11 @@ impl Numerator for i64 {
         self + k * from
     }
 
+    #[tactic(auto, unfolding(crate::specs::Rules::with_product))]
+    fn raised_short(self, from: i64, k: i64) -> i64 {
+        self + i64::from(k as i32) * i64::from(from as i32)
+    }
+
     fn times(self, k: i64) -> i64 {
         k * self
     }
@@ -114,9 +141,14 @@ impl Numerator for i64 {
         self + addend
     }
 
-    #[tactic(auto, unfolding(crate::specs::Rules::nearest))]
-    fn limited(self, least: i64, greatest: i64) -> i64 {
-        self.max(least).min(greatest)
+    #[tactic(auto, unfolding(crate::specs::Rules::but_at_least))]
+    fn but_at_least(self, least: i64) -> i64 {
+        self.max(least)
+    }
+
+    #[tactic(auto, unfolding(crate::specs::Rules::but_at_most))]
+    fn but_at_most(self, greatest: i64) -> i64 {
+        self.min(greatest)
     }
 
     fn low(self) -> u32 {
@@ -146,6 +178,11 @@ impl Numerator for i128 {
         self + k * from
     }
 
+    #[tactic(auto, unfolding(crate::specs::Rules::with_product))]
+    fn raised_short(self, from: i128, k: i128) -> i128 {
+        self + k * from
+    }
+
     fn times(self, k: i128) -> i128 {
         k * self
     }
@@ -154,9 +191,14 @@ impl Numerator for i128 {
         self + addend
     }
 
-    #[tactic(auto, unfolding(crate::specs::Rules::nearest))]
-    fn limited(self, least: i128, greatest: i128) -> i128 {
-        self.max(least).min(greatest)
+    #[tactic(auto, unfolding(crate::specs::Rules::but_at_least))]
+    fn but_at_least(self, least: i128) -> i128 {
+        self.max(least)
+    }
+
+    #[tactic(auto, unfolding(crate::specs::Rules::but_at_most))]
+    fn but_at_most(self, greatest: i128) -> i128 {
+        self.min(greatest)
     }
 
     fn low(self) -> u32 {

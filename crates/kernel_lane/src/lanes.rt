@@ -79,8 +79,29 @@ pub fn merge_part<A: Copy, B: Copy, R: Merge<A, B>, const N: usize>(
     }
 }
 
-// The same from `at` on in both rows, told by the places in them. The lanes are copied out, since
-// so few of them make vectors only where none of them can be written to before it is read.
+/// The same, where N is small, as 16: the lanes are copied out first, since so few of them make
+/// vectors only where none can be written to before it is read.
+pub fn merge_few<A: Copy, B: Copy, R: Merge<A, B>, const N: usize>(
+    rule: R,
+    to: &mut [B],
+    at: usize,
+    from: &[A],
+    start: usize,
+)
+    requires room { (at + N ≤ length to.old) × (start + N ≤ length from.now) }
+    requires takes { (k : ℕ) (x : B) (y : A) → k < N
+        → R.takes rule (slice_index_or to.old (at + k) x) (slice_index_or from.now (start + k) y) }
+    ensures set { (k : ℕ) (x : B) (y : A) (z : B) → k < N
+        → R.makes rule (slice_index_or to.old (at + k) x)
+        (slice_index_or from.now (start + k) y) (slice_index_or to.new (at + k) z) }
+    ensures kept { (i : ℕ) (x : B)
+        → (i < at) ⊎ (at + N ≤ i) → slice_index_or to.new i x ≡ slice_index_or to.old i x }
+{
+    let lanes: [A; N] = lanes_at::<A, N>(from, start);
+    merge_part::<A, B, R, N>(rule, to, at, &lanes, 0);
+}
+
+// The same from `at` on in both rows, told by the places in them.
 fn merge_lanes<A: Copy, B: Copy, R: Merge<A, B>, const N: usize>(
     rule: R,
     to: &mut [B],
@@ -96,8 +117,7 @@ fn merge_lanes<A: Copy, B: Copy, R: Merge<A, B>, const N: usize>(
     ensures kept { (i : ℕ) (x : B)
         → (i < at) ⊎ (at + N ≤ i) → slice_index_or to.new i x ≡ slice_index_or to.old i x }
 {
-    let lanes: [A; N] = lanes_at::<A, N>(from, at);
-    merge_part::<A, B, R, N>(rule, to, at, &lanes, 0);
+    merge_few::<A, B, R, N>(rule, to, at, from, at);
 }
 
 // Changes each element by that of the other row.
