@@ -25,6 +25,7 @@ pub mod Rationals
 pub mod RowSums
 pub mod Rows
 pub mod ScaleSteps
+pub mod ShortFactors
 pub mod Sixteens
 pub mod Swizzles
 pub mod Threes

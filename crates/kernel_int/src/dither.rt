@@ -137,22 +137,22 @@ pub fn dither_value<N: Numerator>(
     position: &PixelPosition,
     numbers: &mut [N],
     v: usize,
-    _old: &Extent,
+    old: &Extent,
     factors: &[i128; 5],
     _new: &Extent,
     addends: &mut [N],
 )
     requires good { k ≤ 4 }
     requires block { (v < 4) × (length numbers.old ≡ 256) × (length addends.old ≡ 256) }
-    requires is { IsDithered N.width _old.now k (factor factors.now 0)
+    requires is { IsDithered N.width old.now k (factor factors.now 0)
         (factor factors.now 1) _new.now }
-    requires old { AreIn N.value numbers.old v _old.now }
-    ensures made { MakesValue N.value numbers.old numbers.new v _old.now _new.now
+    requires old { AreIn N.value numbers.old v old.now }
+    ensures made { MakesValue N.value numbers.old numbers.new v old.now _new.now
         (λ i x. x +ℚ dither_at k (position.now.x + i) position.now.y) }
     ensures kept { (j : ℕ) (d : N) → (j < 64 * v) ⊎ (64 * v + 64 ≤ j)
         → slice_index_or numbers.new j d ≡ slice_index_or numbers.old j d }
 {
-    scale(numbers, v, factors);
+    scale(numbers, v, old, factors);
     let pattern = dither_numbers(k, position.x, position.y);
     fill_addends(&pattern, numerator(factors, 1), addends);
     add_pattern(numbers, v, addends);

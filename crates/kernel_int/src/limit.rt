@@ -4,7 +4,7 @@ ghost use Rattle.std.specs.Prelude.{slice_index_or, FitsSigned, IfSome, ⊤};
 ghost use Rattle.frac_math.specs.Fraction.{nat};
 ghost use Rattle.kernel_int.specs.Forms.{factor, width_of};
 ghost use Rattle.kernel_int.specs.Rules.{nearest, but_at_least, but_at_most};
-ghost use Rattle.kernel_int.specs.ValueSteps.{IsScaled};
+ghost use Rattle.kernel_int.specs.ValueSteps.{AreIn, IsScaled};
 
 use crate::form::{Extent, NumberWidth};
 use crate::interval::fits;
@@ -67,8 +67,15 @@ impl<N: Numerator> Change<N> for AtMost<N> {
 /// Value v of each pixel times the first factor, but at least the least number of an extent. None
 /// of the products is above its greatest one.
 #[inline(never)]
-pub fn hold_above<N: Numerator>(numbers: &mut [N], v: usize, factors: &[i128; 5], new: &Extent)
+pub fn hold_above<N: Numerator>(
+    numbers: &mut [N],
+    v: usize,
+    old: &Extent,
+    factors: &[i128; 5],
+    new: &Extent,
+)
     requires block { (v < 4) × (length numbers.old ≡ 256) }
+    requires old { AreIn N.value numbers.old v old.now }
     requires factor { FitsSigned N.width (factor factors.now 0) }
     requires fits { (i : ℕ) (d : N) → i < 64
         → FitsSigned N.width (factor factors.now 0
@@ -84,15 +91,22 @@ pub fn hold_above<N: Numerator>(numbers: &mut [N], v: usize, factors: &[i128; 5]
     ensures kept { (j : ℕ) (d : N) → (j < 64 * v) ⊎ (64 * v + 64 ≤ j)
         → slice_index_or numbers.new j d ≡ slice_index_or numbers.old j d }
 {
-    scale(numbers, v, factors);
+    scale(numbers, v, old, factors);
     change_part::<N, AtLeast<N>, 64>(AtLeast { least: least_of(new) }, numbers, 64 * v);
 }
 
 /// Value v of each pixel times the first factor, but at most the greatest number of an extent. None
 /// of the products is below its least one.
 #[inline(never)]
-pub fn hold_below<N: Numerator>(numbers: &mut [N], v: usize, factors: &[i128; 5], new: &Extent)
+pub fn hold_below<N: Numerator>(
+    numbers: &mut [N],
+    v: usize,
+    old: &Extent,
+    factors: &[i128; 5],
+    new: &Extent,
+)
     requires block { (v < 4) × (length numbers.old ≡ 256) }
+    requires old { AreIn N.value numbers.old v old.now }
     requires factor { FitsSigned N.width (factor factors.now 0) }
     requires fits { (i : ℕ) (d : N) → i < 64
         → FitsSigned N.width (factor factors.now 0
@@ -107,7 +121,7 @@ pub fn hold_below<N: Numerator>(numbers: &mut [N], v: usize, factors: &[i128; 5]
     ensures kept { (j : ℕ) (d : N) → (j < 64 * v) ⊎ (64 * v + 64 ≤ j)
         → slice_index_or numbers.new j d ≡ slice_index_or numbers.old j d }
 {
-    scale(numbers, v, factors);
+    scale(numbers, v, old, factors);
     change_part::<N, AtMost<N>, 64>(AtMost { greatest: greatest_of(new) }, numbers, 64 * v);
 }
 

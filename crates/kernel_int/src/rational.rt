@@ -1,13 +1,12 @@
 // The numerators of a block.
 ghost use Rattle.std.specs.Prelude.{◌≡◌, ℕ, ℤ, pos, true, false, ◌+◌, ◌*◌, ◌^◌, ◌<◌, ◌≤◌, ◌⊎◌, ◌+ℤ◌};
-ghost use Rattle.std.specs.Prelude.{◌*ℤ◌, length, slice_index_or, FitsSigned};
-ghost use Rattle.std.specs.Int.{w32};
+ghost use Rattle.std.specs.Prelude.{◌*ℤ◌, ◌-ℤ◌, ◌≤ℤ◌, ◌<ℤ◌, length, slice_index_or, FitsSigned};
 ghost use Rattle.kernel_int.specs.Forms.{AreWithin, extent_at};
 ghost use Rattle.kernel_int.specs.Rules.{with_product, row_sum, lane_numbers, RowFits};
 
-use crate::form::{Form, NumberWidth};
-use crate::interval::fits;
+use crate::form::Form;
 use crate::numerator::Numerator;
+use crate::scale::is_short;
 use crate::value::fill;
 use kernel_lane::{Merge, merge_part};
 
@@ -47,14 +46,15 @@ fn mul_add<N: Numerator>(numbers: &[N], u: usize, k: N, sums: &mut [N], v: usize
     merge_part::<N, N, AddedProduct<N>, 64>(AddedProduct { k }, sums, 64 * v, numbers, 64 * u);
 }
 
-// A sum with k times a number, both of which 32 bits hold.
+// The same for a number from 0 to 2^31 - 1, and k from 0 to 2^32 - 1.
 #[derive(Clone, Copy)]
 struct AddedShortProduct<N> {
     k: N,
 }
 
 impl<N: Numerator> Merge<N, N> for AddedShortProduct<N> {
-    ghost takes = { λ r s x. FitsSigned w32 (N.value r.k) × FitsSigned w32 (N.value x)
+    ghost takes = { λ r s x. (pos 0 ≤ℤ N.value x) × (N.value x <ℤ pos (2 ^ 31))
+        × (pos 0 ≤ℤ N.value r.k) × (N.value r.k <ℤ pos (2 ^ 32))
         × FitsSigned N.width (N.value r.k *ℤ N.value x)
         × FitsSigned N.width (with_product (N.value s) (N.value x) (N.value r.k)) };
 
@@ -65,13 +65,15 @@ impl<N: Numerator> Merge<N, N> for AddedShortProduct<N> {
     }
 }
 
-// The same as `mul_add`, where 32 bits hold k and the numbers.
+// The same for numbers from 0 to 2^31 - 1, and k from 0 to 2^32 - 1.
 #[inline(never)]
 fn mul_add_short<N: Numerator>(numbers: &[N], u: usize, k: N, sums: &mut [N], v: usize)
     requires block { (u < 4) × (v < 4) × (length numbers.now ≡ 256) × (length sums.old ≡ 256) }
-    requires k { FitsSigned w32 (N.value k) }
-    requires short { (i : ℕ) (d : N) → i < 64
-        → FitsSigned w32 (N.value (slice_index_or numbers.now (64 * u + i) d)) }
+    requires k { (pos 0 ≤ℤ N.value k) × (N.value k <ℤ pos (2 ^ 32)) }
+    requires least { (i : ℕ) (d : N) → i < 64
+        → pos 0 ≤ℤ N.value (slice_index_or numbers.now (64 * u + i) d) }
+    requires greatest { (i : ℕ) (d : N) → i < 64
+        → N.value (slice_index_or numbers.now (64 * u + i) d) <ℤ pos (2 ^ 31) }
     requires product { (i : ℕ) (d : N) → i < 64
         → FitsSigned N.width (N.value k *ℤ N.value (slice_index_or numbers.now (64 * u + i) d)) }
     requires fits { (i : ℕ) (d : N) → i < 64
@@ -86,6 +88,55 @@ fn mul_add_short<N: Numerator>(numbers: &[N], u: usize, k: N, sums: &mut [N], v:
 {
     merge_part::<N, N, AddedShortProduct<N>, 64>(
         AddedShortProduct { k },
+        sums,
+        64 * v,
+        numbers,
+        64 * u,
+    );
+}
+
+// The same for a number from 0 to 2^31 - 1, and k from -(2^32 - 1) to 0.
+#[derive(Clone, Copy)]
+struct TakenShortProduct<N> {
+    k: N,
+}
+
+impl<N: Numerator> Merge<N, N> for TakenShortProduct<N> {
+    ghost takes = { λ r s x. (pos 0 ≤ℤ N.value x) × (N.value x <ℤ pos (2 ^ 31))
+        × (N.value r.k ≤ℤ pos 0) × ((pos 0 -ℤ N.value r.k) <ℤ pos (2 ^ 32))
+        × FitsSigned N.width (N.value r.k *ℤ N.value x)
+        × FitsSigned N.width (with_product (N.value s) (N.value x) (N.value r.k)) };
+
+    ghost makes = { λ r s x y. N.value y ≡ with_product (N.value s) (N.value x) (N.value r.k) };
+
+    fn merged(self, old: N, from: N) -> N {
+        old.lowered_short(from, self.k)
+    }
+}
+
+// The same for numbers from 0 to 2^31 - 1, and k from -(2^32 - 1) to 0.
+#[inline(never)]
+fn mul_take_short<N: Numerator>(numbers: &[N], u: usize, k: N, sums: &mut [N], v: usize)
+    requires block { (u < 4) × (v < 4) × (length numbers.now ≡ 256) × (length sums.old ≡ 256) }
+    requires k { (N.value k ≤ℤ pos 0) × ((pos 0 -ℤ N.value k) <ℤ pos (2 ^ 32)) }
+    requires least { (i : ℕ) (d : N) → i < 64
+        → pos 0 ≤ℤ N.value (slice_index_or numbers.now (64 * u + i) d) }
+    requires greatest { (i : ℕ) (d : N) → i < 64
+        → N.value (slice_index_or numbers.now (64 * u + i) d) <ℤ pos (2 ^ 31) }
+    requires product { (i : ℕ) (d : N) → i < 64
+        → FitsSigned N.width (N.value k *ℤ N.value (slice_index_or numbers.now (64 * u + i) d)) }
+    requires fits { (i : ℕ) (d : N) → i < 64
+        → FitsSigned N.width (with_product (N.value (slice_index_or sums.old (64 * v + i) d))
+        (N.value (slice_index_or numbers.now (64 * u + i) d)) (N.value k)) }
+    ensures set { (i : ℕ) (d : N) → i < 64
+        → N.value (slice_index_or sums.new (64 * v + i) d)
+        ≡ with_product (N.value (slice_index_or sums.old (64 * v + i) d)) (N.value
+        (slice_index_or numbers.now (64 * u + i) d)) (N.value k) }
+    ensures kept { (j : ℕ) (d : N) → (j < 64 * v) ⊎ (64 * v + 64 ≤ j)
+        → slice_index_or sums.new j d ≡ slice_index_or sums.old j d }
+{
+    merge_part::<N, N, TakenShortProduct<N>, 64>(
+        TakenShortProduct { k },
         sums,
         64 * v,
         numbers,
@@ -110,25 +161,34 @@ fn has_entry(row: &[i128; 5], j: usize) -> bool
     row[j] != 0
 }
 
-// Whether 32 bits hold entry j of a row.
+// Whether entry j of a row lies from 0 to 2^32 - 1.
 fn is_short_entry(row: &[i128; 5], j: usize) -> bool
     requires { j < 5 }
-    ensures { result ≡ true → FitsSigned w32 (slice_index_or row.now j (pos 0)) }
+    ensures least { result ≡ true → pos 0 ≤ℤ slice_index_or row.now j (pos 0) }
+    ensures greatest { result ≡ true → slice_index_or row.now j (pos 0) <ℤ pos (2 ^ 32) }
 {
-    fits(row[j], NumberWidth::Bits32)
+    0 <= row[j] && row[j] < 4_294_967_296
 }
 
-// Whether 32 bits hold all numbers of value j.
+// Whether entry j of a row lies from -(2^32 - 1) to 0.
+fn is_short_below(row: &[i128; 5], j: usize) -> bool
+    requires { j < 5 }
+    ensures greatest { result ≡ true → slice_index_or row.now j (pos 0) ≤ℤ pos 0 }
+    ensures least { result ≡ true
+        → (pos 0 -ℤ slice_index_or row.now j (pos 0)) <ℤ pos (2 ^ 32) }
+{
+    -4_294_967_296 < row[j] && row[j] <= 0
+}
+
+// Whether all numbers of value j lie from 0 to 2^31 - 1.
 fn is_short_value(form: &Form, j: usize) -> bool
     requires { j < 4 }
     ensures there { result ≡ true → j < form.now.count }
-    ensures least { result ≡ true → FitsSigned w32 (extent_at form.now j).least }
-    ensures greatest { result ≡ true → FitsSigned w32 (extent_at form.now j).greatest }
+    ensures least { result ≡ true → pos 0 ≤ℤ (extent_at form.now j).least }
+    ensures greatest { result ≡ true → (extent_at form.now j).greatest <ℤ pos (2 ^ 31) }
 {
     let extent = form.extents[j];
-    j < form.count
-        && fits(extent.least, NumberWidth::Bits32)
-        && fits(extent.greatest, NumberWidth::Bits32)
+    j < form.count && is_short(&extent)
 }
 
 // Entry j of a row times value j of each pixel, added to value v of the sums.
@@ -159,6 +219,10 @@ fn add_product<N: Numerator>(
     if is_short_value(form, j) {
         if is_short_entry(row, j) {
             mul_add_short(numbers, j, entry(row, j), sums, v);
+            return;
+        }
+        if is_short_below(row, j) {
+            mul_take_short(numbers, j, entry(row, j), sums, v);
             return;
         }
     }
