@@ -65,6 +65,18 @@ row_numbers k x y numbers h each i =
     let same : dither_at k (x + i) y ≡ dither_at k (x % 16 + j) y = same_dither k (x + i) (x % 16 + j) y h (omega arith) in
     (rw same one.0, one.1, one.2)
 
+-- where each number is 1, they are halves
+halves_dither : (x y : ℕ) (numbers : List ℕ) → ((j : ℕ) → j < 16 → slice_index numbers j ≡ 1) → NumbersDither 0 x y numbers
+halves_dither x y numbers one i =
+    let is : slice_index numbers (i % 16) ≡ 1 = one (i % 16) (omega arith) in
+    let stands : Stands (dither_at 0 (x + i) y) (pos 1) (2 * 4 ^ 0) = number_stands 0 0 (x + i) y (sym (index_number-zero (x + i) y)) in
+    let most : 1 < 2 * 4 ^ 0 = omega arith in
+    rw is (stands, omega arith, most)
+
+pub halves_are_dithers : (k x y : ℕ) (numbers : List ℕ) → k ≡ 0 → ((j : ℕ) → j < 16 → slice_index numbers j ≡ 1)
+    → NumbersDither k x y numbers
+halves_are_dithers k x y numbers none one = rw none (halves_dither x y numbers one)
+
 -- ---- a value
 pub unit_products : (width : Width) (old : Extent) (count : ℕ) (k unit : ℤ) (new : Extent) (x y : ℕ) (pattern : List ℕ)
     → IsDithered width old count k unit new

@@ -33,6 +33,7 @@ pub mod RowSums
 pub mod RowFrames
 pub mod RunRows
 pub mod ScaleSteps
+pub mod ShortFactors
 pub mod Sixteens
 pub mod Swizzles
 pub mod ValueBlocks

@@ -1,12 +1,22 @@
 -- Value v of a block, but at most or at least a limit.
-use Rattle.std.proofs.Common.{◌≡◌, ℕ, ◌+◌, ◌*◌, ◌<◌, List, ℤ, ◌*ℤ◌, slice_index_or}
-use Rattle.std.specs.Prelude.{Some}
+use Rattle.std.proofs.Common.{◌≡◌, ℕ, ◌+◌, ◌*◌, ◌<◌, List, ℤ, ◌*ℤ◌, slice_index_or, arith}
+use Rattle.std.specs.Prelude.{Some, ◌≤ℤ◌}
+use Rattle.std.proofs.lemmas.Int.{ints}
 use Rattle.std.specs.Int.{Width}
 use Rattle.frac_math.specs.Fraction.{ℚ, min_ℚ, max_ℚ}
 use Rattle.kernel_int.specs.declared.form.Extent.{Extent}
-use Rattle.kernel_int.specs.Rules.{nearest}
+use Rattle.kernel_int.specs.Rules.{nearest, but_at_least, but_at_most}
 use Rattle.kernel_int.specs.ValueSteps.{AreIn, IsMaximum, IsMinimum, MakesValue}
 use Rattle.kernel_int.proofs.ValueFractions.{max_stands, min_stands, nearest_high, nearest_low}
+
+-- the nearest number of an interval, for a number that is not above it, or not below it
+pub nearest_above : (least greatest x : ℤ) → least ≤ℤ greatest → x ≤ℤ greatest → but_at_least least x ≡ nearest least greatest x
+unfolding nearest but_at_least
+nearest_above least greatest x ordered below = grind (arith, ints)
+
+pub nearest_below : (least greatest x : ℤ) → least ≤ℤ x → but_at_most greatest x ≡ nearest least greatest x
+unfolding nearest but_at_most
+nearest_below least greatest x above = grind (arith, ints)
 
 -- each number times k, but in the bounds of an extent
 abbrev pub Holds : {N : Type 0} → (N → ℤ) → ℤ → Extent → ℕ → List N → List N → Type 0

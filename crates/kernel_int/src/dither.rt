@@ -13,6 +13,7 @@ use crate::made::Made;
 use crate::numerator::Numerator;
 use crate::row_form::{difference_of, whole_quotient};
 use crate::scale::{multiple_for, multiplied, numerator, scale};
+use kernel_lane::{Merge, merge_few};
 use op_list::{Op, PixelPosition};
 
 // The number in the index matrix of 2 by 2, in the column and the row of the lowest digits.
@@ -45,12 +46,23 @@ fn dither_number(k: u8, x: u32, y: u32) -> u32
     2 * (index_of_sixteen(x, y) >> (8 - 2 * u32::from(k))) + 1
 }
 
+// Sixteen times the number of the dither that is a half at every pixel.
+fn halves() -> [u32; 16]
+    ensures size { length result ≡ 16 }
+    ensures one { (j : ℕ) → j < 16 → slice_index result j ≡ 1 }
+{
+    [1; 16]
+}
+
 // The same of sixteen pixels of a row; behind them it repeats.
 fn dither_numbers(k: u8, x: u32, y: u32) -> [u32; 16]
     requires { k ≤ 4 }
     ensures size { length result ≡ 16 }
     ensures numbers { NumbersDither k x y result }
 {
+    if k == 0 {
+        return halves();
+    }
     let mut numbers = [0; 16];
     for j in 0..16 {
         numbers[j] = dither_number(k, x % 16 + j as u32, y);
@@ -72,6 +84,20 @@ fn fill_addends<N: Numerator>(pattern: &[u32], unit: N, addends: &mut [N])
     }
 }
 
+// The sum of two numbers.
+#[derive(Clone, Copy)]
+struct Sum;
+
+impl<N: Numerator> Merge<N, N> for Sum {
+    ghost takes = { λ _ s x. FitsSigned N.width (N.value s +ℤ N.value x) };
+
+    ghost makes = { λ _ s x y. N.value y ≡ N.value s +ℤ N.value x };
+
+    fn merged(self, old: N, from: N) -> N {
+        old.plus(from)
+    }
+}
+
 // Sixteen addends, one to each of sixteen numbers.
 fn add_sixteen<N: Numerator>(numbers: &mut [N], at: usize, addends: &[N])
     requires block { (at + 16 ≤ 256) × (length numbers.old ≡ 256) × (length addends.now ≡ 256) }
@@ -84,9 +110,7 @@ fn add_sixteen<N: Numerator>(numbers: &mut [N], at: usize, addends: &[N])
     ensures kept { (j : ℕ) (d : N) → (j < at) ⊎ (at + 16 ≤ j)
         → slice_index_or numbers.new j d ≡ slice_index_or numbers.old j d }
 {
-    for j in 0..16 {
-        numbers[at + j] = numbers[at + j].plus(addends[j]);
-    }
+    merge_few::<N, N, Sum, 16>(Sum, numbers, at, addends, 0);
 }
 
 // Sixteen addends, again and again, to value v of the pixels.
@@ -113,22 +137,22 @@ pub fn dither_value<N: Numerator>(
     position: &PixelPosition,
     numbers: &mut [N],
     v: usize,
-    _old: &Extent,
+    old: &Extent,
     factors: &[i128; 5],
     _new: &Extent,
     addends: &mut [N],
 )
     requires good { k ≤ 4 }
     requires block { (v < 4) × (length numbers.old ≡ 256) × (length addends.old ≡ 256) }
-    requires is { IsDithered N.width _old.now k (factor factors.now 0)
+    requires is { IsDithered N.width old.now k (factor factors.now 0)
         (factor factors.now 1) _new.now }
-    requires old { AreIn N.value numbers.old v _old.now }
-    ensures made { MakesValue N.value numbers.old numbers.new v _old.now _new.now
+    requires old { AreIn N.value numbers.old v old.now }
+    ensures made { MakesValue N.value numbers.old numbers.new v old.now _new.now
         (λ i x. x +ℚ dither_at k (position.now.x + i) position.now.y) }
     ensures kept { (j : ℕ) (d : N) → (j < 64 * v) ⊎ (64 * v + 64 ≤ j)
         → slice_index_or numbers.new j d ≡ slice_index_or numbers.old j d }
 {
-    scale(numbers, v, factors);
+    scale(numbers, v, old, factors);
     let pattern = dither_numbers(k, position.x, position.y);
     fill_addends(&pattern, numerator(factors, 1), addends);
     add_pattern(numbers, v, addends);

@@ -46,7 +46,7 @@ pub fn linear_step<W: WholeNumber, N: Numerator>(
         numbers.new }
 {
     for v in 0..after.count {
-        row_of_sums(numbers, &after.factors[v], sums, v);
+        row_of_sums(numbers, before, &after.factors[v], sums, v);
     }
     copy_front(sums, 64 * after.count, numbers);
 }

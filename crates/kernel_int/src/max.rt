@@ -6,7 +6,7 @@ ghost use Rattle.kernel_int.specs.Forms.{factor, width_of};
 ghost use Rattle.kernel_int.specs.ValueSteps.{AreIn, IsAtLeast, IsMaximum, MakesValue};
 
 use crate::form::{Extent, NumberWidth};
-use crate::limit::{bring_over_one, hold_inside, unlimited};
+use crate::limit::{bring_over_one, hold_above, unlimited};
 use crate::made::Made;
 use crate::numerator::Numerator;
 use crate::scale::scale;
@@ -18,21 +18,21 @@ pub fn max_value<N: Numerator>(
     limit: &Option<Frac>,
     numbers: &mut [N],
     v: usize,
-    _old: &Extent,
+    old: &Extent,
     factors: &[i128; 5],
     new: &Extent,
 )
     requires block { (v < 4) × (length numbers.old ≡ 256) }
-    requires is { IsAtLeast N.width _old.now limit.now (factor factors.now 0) new.now }
-    requires old { AreIn N.value numbers.old v _old.now }
-    ensures made { MakesValue N.value numbers.old numbers.new v _old.now new.now
+    requires is { IsAtLeast N.width old.now limit.now (factor factors.now 0) new.now }
+    requires old { AreIn N.value numbers.old v old.now }
+    ensures made { MakesValue N.value numbers.old numbers.new v old.now new.now
         (λ i x. at_least limit.now x) }
     ensures kept { (j : ℕ) (d : N) → (j < 64 * v) ⊎ (64 * v + 64 ≤ j)
         → slice_index_or numbers.new j d ≡ slice_index_or numbers.old j d }
 {
     match limit {
-        None => scale(numbers, v, factors),
-        Some(_) => hold_inside(numbers, v, factors, new),
+        None => scale(numbers, v, old, factors),
+        Some(_) => hold_above(numbers, v, old, factors, new),
     }
 }
 

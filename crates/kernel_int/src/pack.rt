@@ -46,8 +46,10 @@ fn pack_fields<W: WholeNumber>(widths: &[u8; 4], values: &mut [W])
     ensures kept { (j : ℕ) (d : W) → 64 ≤ j
         → slice_index_or values.new j d ≡ slice_index_or values.old j d }
 {
+    // A copy, which no store to the values can change.
+    let own = *widths;
     for i in 0..64 {
-        values[i] = packed_pixel(widths, values, i);
+        values[i] = packed_pixel(&own, values, i);
     }
 }
 

@@ -1,6 +1,6 @@
 // Values times a factor of their own.
-ghost use Rattle.std.specs.Prelude.{◌≡◌, ℕ, ◌+◌, ◌*◌, ◌<◌, ◌≤◌, ◌⊎◌, pos, ◌*ℤ◌, ◌<ℤ◌, true, length};
-ghost use Rattle.std.specs.Prelude.{slice_index_or, unsigned_abs, FitsSigned, IfSome};
+ghost use Rattle.std.specs.Prelude.{◌≡◌, ℕ, ◌+◌, ◌*◌, ◌^◌, ◌<◌, ◌≤◌, ◌⊎◌, pos, ◌*ℤ◌, ◌<ℤ◌, true, length};
+ghost use Rattle.std.specs.Prelude.{◌≤ℤ◌, slice_index_or, unsigned_abs, FitsSigned, IfSome};
 ghost use Rattle.frac_math.specs.Fraction.{◌*ℚ◌, nat};
 ghost use Rattle.kernel_int.specs.declared.form.Extent.{Extent};
 ghost use Rattle.kernel_int.specs.Forms.{factor, width_of};
@@ -14,6 +14,23 @@ use crate::numerator::Numerator;
 use crate::row_form::product_of;
 use crate::single::with_single;
 use frac_math::Frac;
+use kernel_lane::{Change, change_part};
+
+// k times a number.
+#[derive(Clone, Copy)]
+struct Product<N> {
+    k: N,
+}
+
+impl<N: Numerator> Change<N> for Product<N> {
+    ghost takes = { λ r x. FitsSigned N.width (N.value r.k *ℤ N.value x) };
+
+    ghost makes = { λ r x y. N.value y ≡ N.value r.k *ℤ N.value x };
+
+    fn changed(self, x: N) -> N {
+        x.times(self.k)
+    }
+}
 
 // Value v of each pixel times k.
 #[inline(never)]
@@ -26,9 +43,60 @@ fn multiply<N: Numerator>(numbers: &mut [N], v: usize, k: N)
     ensures kept { (j : ℕ) (d : N) → (j < 64 * v) ⊎ (64 * v + 64 ≤ j)
         → slice_index_or numbers.new j d ≡ slice_index_or numbers.old j d }
 {
-    for i in 0..64 {
-        numbers[64 * v + i] = numbers[64 * v + i].times(k);
+    change_part::<N, Product<N>, 64>(Product { k }, numbers, 64 * v);
+}
+
+// k times a number, where that lies from 0 to 2^31 - 1, and k from 0 to 2^32 - 1.
+#[derive(Clone, Copy)]
+struct ShortProduct<N> {
+    k: N,
+}
+
+impl<N: Numerator> Change<N> for ShortProduct<N> {
+    ghost takes = { λ r x. (pos 0 ≤ℤ N.value x) × (N.value x <ℤ pos (2 ^ 31))
+        × (pos 0 ≤ℤ N.value r.k) × (N.value r.k <ℤ pos (2 ^ 32))
+        × FitsSigned N.width (N.value r.k *ℤ N.value x) };
+
+    ghost makes = { λ r x y. N.value y ≡ N.value r.k *ℤ N.value x };
+
+    fn changed(self, x: N) -> N {
+        x.times_short(self.k)
     }
+}
+
+// The same for such numbers.
+#[inline(never)]
+fn multiply_short<N: Numerator>(numbers: &mut [N], v: usize, k: N)
+    requires block { (v < 4) × (length numbers.old ≡ 256) }
+    requires k { (pos 0 ≤ℤ N.value k) × (N.value k <ℤ pos (2 ^ 32)) }
+    requires least { (i : ℕ) (d : N) → i < 64
+        → pos 0 ≤ℤ N.value (slice_index_or numbers.old (64 * v + i) d) }
+    requires greatest { (i : ℕ) (d : N) → i < 64
+        → N.value (slice_index_or numbers.old (64 * v + i) d) <ℤ pos (2 ^ 31) }
+    requires fits { (i : ℕ) (d : N) → i < 64
+        → FitsSigned N.width (N.value k *ℤ N.value (slice_index_or numbers.old (64 * v + i) d)) }
+    ensures set { (i : ℕ) (d : N) → i < 64 → N.value (slice_index_or numbers.new (64 * v + i) d)
+        ≡ N.value k *ℤ N.value (slice_index_or numbers.old (64 * v + i) d) }
+    ensures kept { (j : ℕ) (d : N) → (j < 64 * v) ⊎ (64 * v + 64 ≤ j)
+        → slice_index_or numbers.new j d ≡ slice_index_or numbers.old j d }
+{
+    change_part::<N, ShortProduct<N>, 64>(ShortProduct { k }, numbers, 64 * v);
+}
+
+/// Whether all numbers of an extent lie from 0 to 2^31 - 1.
+pub fn is_short(extent: &Extent) -> bool
+    ensures least { result ≡ true → pos 0 ≤ℤ extent.now.least }
+    ensures greatest { result ≡ true → extent.now.greatest <ℤ pos (2 ^ 31) }
+{
+    0 <= extent.least && extent.greatest < 2_147_483_648
+}
+
+// Whether the first factor lies from 0 to 2^32 - 1.
+fn is_short_factor(factors: &[i128; 5]) -> bool
+    ensures least { result ≡ true → pos 0 ≤ℤ factor factors.now 0 }
+    ensures greatest { result ≡ true → factor factors.now 0 <ℤ pos (2 ^ 32) }
+{
+    0 <= factors[0] && factors[0] < 4_294_967_296
 }
 
 // Whether the first factor is 1.
@@ -47,9 +115,10 @@ pub fn numerator<N: Numerator>(factors: &[i128; 5], j: usize) -> N
     N::of(factors[j])
 }
 
-/// Value v of each pixel times the first factor, which is mostly 1.
-pub fn scale<N: Numerator>(numbers: &mut [N], v: usize, factors: &[i128; 5])
+/// Value v of each pixel, whose numbers lie in an extent, times the first factor, which is mostly 1.
+pub fn scale<N: Numerator>(numbers: &mut [N], v: usize, old: &Extent, factors: &[i128; 5])
     requires block { (v < 4) × (length numbers.old ≡ 256) }
+    requires old { AreIn N.value numbers.old v old.now }
     requires factor { FitsSigned N.width (factor factors.now 0) }
     requires fits { (i : ℕ) (d : N) → i < 64
         → FitsSigned N.width (factor factors.now 0
@@ -62,6 +131,12 @@ pub fn scale<N: Numerator>(numbers: &mut [N], v: usize, factors: &[i128; 5])
     if is_one(factors) {
         return;
     }
+    if is_short(old) {
+        if is_short_factor(factors) {
+            multiply_short(numbers, v, numerator(factors, 0));
+            return;
+        }
+    }
     multiply(numbers, v, numerator(factors, 0));
 }
 
@@ -70,19 +145,19 @@ pub fn scale_value<N: Numerator>(
     _by: &Frac,
     numbers: &mut [N],
     v: usize,
-    _old: &Extent,
+    old: &Extent,
     factors: &[i128; 5],
     _new: &Extent,
 )
     requires block { (v < 4) × (length numbers.old ≡ 256) }
-    requires is { IsScaled N.width _old.now _by.now (factor factors.now 0) _new.now }
-    requires old { AreIn N.value numbers.old v _old.now }
-    ensures made { MakesValue N.value numbers.old numbers.new v _old.now _new.now
+    requires is { IsScaled N.width old.now _by.now (factor factors.now 0) _new.now }
+    requires old { AreIn N.value numbers.old v old.now }
+    ensures made { MakesValue N.value numbers.old numbers.new v old.now _new.now
         (λ i x. x *ℚ _by.now) }
     ensures kept { (j : ℕ) (d : N) → (j < 64 * v) ⊎ (64 * v + 64 ≤ j)
         → slice_index_or numbers.new j d ≡ slice_index_or numbers.old j d }
 {
-    scale(numbers, v, factors);
+    scale(numbers, v, old, factors);
 }
 
 // Whether k over a new denominator is `by` times 1 over the old one.

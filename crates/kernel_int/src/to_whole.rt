@@ -17,6 +17,7 @@ use crate::form::{
 use crate::interval::fits;
 use crate::numerator::Numerator;
 use crate::whole_number::WholeNumber;
+use kernel_lane::{Merge, merge_part};
 use op_list::{Op, PixType, PixelPosition, Stage};
 
 // The quotient of a number.
@@ -57,6 +58,24 @@ fn lowest(n: u32, to: PixType) -> u32
     }
 }
 
+// The quotient of a number by a multiplication of 32 bits.
+#[derive(Clone, Copy)]
+struct ShortQuotient {
+    by: Reciprocal,
+}
+
+impl<W: WholeNumber, N: Numerator> Merge<N, W> for ShortQuotient {
+    ghost takes = { λ r _ x. IsReciprocal r.by.d r.by.bound r.by.factor r.by.shift
+        × (r.by.shift < 64) × (pos 0 ≤ℤ N.value x) × (N.value x ≤ℤ pos r.by.bound)
+        × (r.by.bound / r.by.d < 2 ^ W.bits) };
+
+    ghost makes = { λ r _ x y. W.number y ≡ unsigned_abs (N.value x) / r.by.d };
+
+    fn merged(self, _old: W, from: N) -> W {
+        W::narrow(quotient(from.low(), self.by))
+    }
+}
+
 // The quotients of value v of each pixel, by a multiplication.
 #[inline(never)]
 fn narrow<W: WholeNumber, N: Numerator>(numbers: &[N], v: usize, by: Reciprocal, values: &mut [W])
@@ -74,9 +93,7 @@ fn narrow<W: WholeNumber, N: Numerator>(numbers: &[N], v: usize, by: Reciprocal,
     ensures kept { (j : ℕ) (d : W) → (j < 64 * v) ⊎ (64 * v + 64 ≤ j)
         → slice_index_or values.new j d ≡ slice_index_or values.old j d }
 {
-    for i in 0..64 {
-        values[64 * v + i] = W::narrow(quotient(numbers[64 * v + i].low(), by));
-    }
+    merge_part::<N, W, ShortQuotient, 64>(ShortQuotient { by }, values, 64 * v, numbers, 64 * v);
 }
 
 // A quotient by a multiplication of 64 bits, which 32 bits hold.
@@ -90,6 +107,24 @@ fn short_of_long<N: Numerator>(n: N, by: LongReciprocal) -> u32
     ensures small { result ≤ by.bound / by.d }
 {
     long_quotient(n.long(), by) as u32
+}
+
+// The quotient of a number by a multiplication of 64 bits.
+#[derive(Clone, Copy)]
+struct LongQuotient {
+    by: LongReciprocal,
+}
+
+impl<W: WholeNumber, N: Numerator> Merge<N, W> for LongQuotient {
+    ghost takes = { λ r _ x. IsReciprocal r.by.d r.by.bound r.by.factor r.by.shift
+        × (r.by.shift < 128) × (pos 0 ≤ℤ N.value x) × (N.value x ≤ℤ pos r.by.bound)
+        × (r.by.bound / r.by.d < 2 ^ 32) × (r.by.bound / r.by.d < 2 ^ W.bits) };
+
+    ghost makes = { λ r _ x y. W.number y ≡ unsigned_abs (N.value x) / r.by.d };
+
+    fn merged(self, _old: W, from: N) -> W {
+        W::narrow(short_of_long(from, self.by))
+    }
 }
 
 // The same by a multiplication of 64 bits.
@@ -115,9 +150,7 @@ fn narrow_long<W: WholeNumber, N: Numerator>(
     ensures kept { (j : ℕ) (d : W) → (j < 64 * v) ⊎ (64 * v + 64 ≤ j)
         → slice_index_or values.new j d ≡ slice_index_or values.old j d }
 {
-    for i in 0..64 {
-        values[64 * v + i] = W::narrow(short_of_long(numbers[64 * v + i], by));
-    }
+    merge_part::<N, W, LongQuotient, 64>(LongQuotient { by }, values, 64 * v, numbers, 64 * v);
 }
 
 // A floor, modulo 2^bits.
@@ -128,6 +161,25 @@ fn floor_in<N: Numerator>(n: N, d: N, to: PixType) -> u32
     ensures small { result < 2 ^ bits to }
 {
     lowest(n.floor_by(d), to)
+}
+
+// The floor of a number by a division.
+#[derive(Clone, Copy)]
+struct Floor<N> {
+    d: N,
+    to: PixType,
+}
+
+impl<W: WholeNumber, N: Numerator> Merge<N, W> for Floor<N> {
+    ghost takes = { λ r _ x. (is_whole_type r.to ≡ true) × (pos 0 <ℤ N.value r.d)
+        × (2 ^ bits r.to ≤ 2 ^ W.bits) };
+
+    ghost makes = { λ r _ x y. W.number y
+        ≡ modulo (int_div_euclid (N.value x) (N.value r.d)) (2 ^ bits r.to) };
+
+    fn merged(self, _old: W, from: N) -> W {
+        W::narrow(floor_in(from, self.d, self.to))
+    }
 }
 
 // The floors of value v of each pixel, by a division.
@@ -150,9 +202,7 @@ fn divide<W: WholeNumber, N: Numerator>(
     ensures kept { (j : ℕ) (x : W) → (j < 64 * v) ⊎ (64 * v + 64 ≤ j)
         → slice_index_or values.new j x ≡ slice_index_or values.old j x }
 {
-    for i in 0..64 {
-        values[64 * v + i] = W::narrow(floor_in(numbers[64 * v + i], d, to));
-    }
+    merge_part::<N, W, Floor<N>, 64>(Floor { d, to }, values, 64 * v, numbers, 64 * v);
 }
 
 // The denominator of an extent as a numerator.

@@ -5,7 +5,21 @@ ghost use Rattle.kernel_lane.specs.Rules.{IsLaneCount};
 
 use crate::rule::{Change, Merge};
 
-// Changes the N elements from `at` on.
+/// Changes the N elements from `at` on by a rule.
+pub fn change_part<T: Copy, R: Change<T>, const N: usize>(rule: R, v: &mut [T], at: usize)
+    requires room { at + N ≤ length v.old }
+    requires takes { (k : ℕ) (x : T) → k < N → R.takes rule (slice_index_or v.old (at + k) x) }
+    ensures set { (k : ℕ) (x : T) → k < N
+        → R.makes rule (slice_index_or v.old (at + k) x) (slice_index_or v.new (at + k) x) }
+    ensures kept { (i : ℕ) (x : T)
+        → (i < at) ⊎ (at + N ≤ i) → slice_index_or v.new i x ≡ slice_index_or v.old i x }
+{
+    for k in 0..N {
+        v[at + k] = rule.changed(v[at + k]);
+    }
+}
+
+// The same, told by the places in the row.
 fn change_lanes<T: Copy, R: Change<T>, const N: usize>(rule: R, v: &mut [T], at: usize)
     requires room { at + N ≤ length v.old }
     requires takes { (i : ℕ) (x : T)
@@ -15,9 +29,7 @@ fn change_lanes<T: Copy, R: Change<T>, const N: usize>(rule: R, v: &mut [T], at:
     ensures kept { (i : ℕ) (x : T)
         → (i < at) ⊎ (at + N ≤ i) → slice_index_or v.new i x ≡ slice_index_or v.old i x }
 {
-    for k in 0..N {
-        v[at + k] = rule.changed(v[at + k]);
-    }
+    change_part::<T, R, N>(rule, v, at);
 }
 
 // Changes each element.
@@ -35,8 +47,7 @@ pub fn change<T: Copy, R: Change<T>, const N: usize>(rule: R, v: &mut [T])
     }
 }
 
-// The N elements from `at` on. They are copied out, so that the loop that uses them may write to
-// another row before all of them are read.
+// The N elements from `at` on.
 fn lanes_at<T: Copy, const N: usize>(from: &[T], at: usize) -> [T; N]
     requires { at + N ≤ length from.now }
     ensures count { length result ≡ N }
@@ -46,7 +57,51 @@ fn lanes_at<T: Copy, const N: usize>(from: &[T], at: usize) -> [T; N]
     <[T; N]>::try_from(&from[at..at + N]).unwrap()
 }
 
-// Changes the N elements from `at` on by those of the other row.
+/// Changes the N elements from `at` on by those of the other row from `start` on.
+pub fn merge_part<A: Copy, B: Copy, R: Merge<A, B>, const N: usize>(
+    rule: R,
+    to: &mut [B],
+    at: usize,
+    from: &[A],
+    start: usize,
+)
+    requires room { (at + N ≤ length to.old) × (start + N ≤ length from.now) }
+    requires takes { (k : ℕ) (x : B) (y : A) → k < N
+        → R.takes rule (slice_index_or to.old (at + k) x) (slice_index_or from.now (start + k) y) }
+    ensures set { (k : ℕ) (x : B) (y : A) (z : B) → k < N
+        → R.makes rule (slice_index_or to.old (at + k) x)
+        (slice_index_or from.now (start + k) y) (slice_index_or to.new (at + k) z) }
+    ensures kept { (i : ℕ) (x : B)
+        → (i < at) ⊎ (at + N ≤ i) → slice_index_or to.new i x ≡ slice_index_or to.old i x }
+{
+    for k in 0..N {
+        to[at + k] = rule.merged(to[at + k], from[start + k]);
+    }
+}
+
+/// The same, where N is small, as 16: the lanes are copied out first, since so few of them make
+/// vectors only where none can be written to before it is read.
+pub fn merge_few<A: Copy, B: Copy, R: Merge<A, B>, const N: usize>(
+    rule: R,
+    to: &mut [B],
+    at: usize,
+    from: &[A],
+    start: usize,
+)
+    requires room { (at + N ≤ length to.old) × (start + N ≤ length from.now) }
+    requires takes { (k : ℕ) (x : B) (y : A) → k < N
+        → R.takes rule (slice_index_or to.old (at + k) x) (slice_index_or from.now (start + k) y) }
+    ensures set { (k : ℕ) (x : B) (y : A) (z : B) → k < N
+        → R.makes rule (slice_index_or to.old (at + k) x)
+        (slice_index_or from.now (start + k) y) (slice_index_or to.new (at + k) z) }
+    ensures kept { (i : ℕ) (x : B)
+        → (i < at) ⊎ (at + N ≤ i) → slice_index_or to.new i x ≡ slice_index_or to.old i x }
+{
+    let lanes: [A; N] = lanes_at::<A, N>(from, start);
+    merge_part::<A, B, R, N>(rule, to, at, &lanes, 0);
+}
+
+// The same from `at` on in both rows, told by the places in them.
 fn merge_lanes<A: Copy, B: Copy, R: Merge<A, B>, const N: usize>(
     rule: R,
     to: &mut [B],
@@ -62,10 +117,7 @@ fn merge_lanes<A: Copy, B: Copy, R: Merge<A, B>, const N: usize>(
     ensures kept { (i : ℕ) (x : B)
         → (i < at) ⊎ (at + N ≤ i) → slice_index_or to.new i x ≡ slice_index_or to.old i x }
 {
-    let lanes: [A; N] = lanes_at::<A, N>(from, at);
-    for k in 0..N {
-        to[at + k] = rule.merged(to[at + k], lanes[k]);
-    }
+    merge_few::<A, B, R, N>(rule, to, at, from, at);
 }
 
 // Changes each element by that of the other row.

@@ -14,8 +14,10 @@ mod tests;
 mod widths;
 
 pub use bytes::{swap_u16, swap_u32};
+pub use lanes::{change_part, merge_few, merge_part};
 pub use numerators::{clamp, floor_div, mul_add};
 pub use picks::pick;
 pub use px::Px;
+pub use rule::{Change, Merge};
 pub use shifts::{shift_left, shift_right};
 pub use widths::{expand, narrow, widen};

@@ -1,11 +1,11 @@
 // Rows by hand, and each call beside its plain rule at lengths below, at and above the lanes.
-ghost use Rattle.std.specs.Prelude.{◌≤◌, ◌<◌, ◌^◌, ◌≤ℤ◌, ◌<ℤ◌, pos, length};
+ghost use Rattle.std.specs.Prelude.{◌≡◌, ◌+◌, ◌/◌, ◌%◌, ◌≤◌, ◌<◌, ◌^◌, ◌≤ℤ◌, ◌<ℤ◌, pos, length, ⊤};
 ghost use Rattle.kernel_lane.specs.Rows.{ForEach};
 ghost use Rattle.kernel_lane.specs.Rules.{IsLaneCount};
 
 use crate::{
-    clamp, expand, floor_div, mul_add, narrow, pick, shift_left, shift_right, swap_u16, swap_u32,
-    widen,
+    Change, Merge, change_part, clamp, expand, floor_div, merge_few, merge_part, mul_add, narrow,
+    pick, shift_left, shift_right, swap_u16, swap_u32, widen,
 };
 use std::process::Abort;
 
@@ -183,6 +183,77 @@ fn check_numerators<const N: usize>(rt: &impl Abort, len: usize)
         };
         assert_eq!(rt; near[i], nearest);
     }
+}
+
+// Half of a number.
+#[derive(Clone, Copy)]
+struct Half;
+
+impl Change<u32> for Half {
+    ghost takes = { λ _ _. ⊤ };
+
+    ghost makes = { λ _ x y. y ≡ x / 2 };
+
+    fn changed(self, x: u32) -> u32 {
+        x / 2
+    }
+}
+
+// The remainder of a number by one more than another.
+#[derive(Clone, Copy)]
+struct Remainder;
+
+impl Merge<u16, u32> for Remainder {
+    ghost takes = { λ _ _ _. ⊤ };
+
+    ghost makes = { λ _ s x y. y ≡ s % (x + 1) };
+
+    fn merged(self, old: u32, from: u16) -> u32 {
+        old % (u32::from(from) + 1)
+    }
+}
+
+const PLACE: usize = 33;
+const START: usize = 7;
+
+// The parts of N elements: the elements in front of them and behind them stay.
+fn check_parts<const N: usize>(rt: &impl Abort)
+    requires short { N ≤ 70 }
+{
+    let mut from = [0u16; 2 * MOST];
+    let mut changed = [0u32; 2 * MOST];
+    for i in 0..2 * MOST {
+        from[i] = sample(i + 200);
+        changed[i] = u32::from(sample(i)) * 65536;
+    }
+    let mut merged = changed;
+    let mut few = changed;
+    change_part::<u32, Half, N>(Half, &mut changed, PLACE);
+    merge_part::<u16, u32, Remainder, N>(Remainder, &mut merged, PLACE, &from, START);
+    merge_few::<u16, u32, Remainder, N>(Remainder, &mut few, PLACE, &from, START);
+    for i in 0..2 * MOST {
+        let x = u32::from(sample(i)) * 65536;
+        let (half, rest) = if PLACE <= i && i < PLACE + N {
+            let by = u32::from(sample(i - PLACE + START + 200)) + 1;
+            (x / 2, x % by)
+        } else {
+            (x, x)
+        };
+        assert_eq!(rt; (changed[i], merged[i], few[i]), (half, rest, rest));
+    }
+}
+
+#[test]
+fn parts_equal_their_plain_rules(rt: HostRuntime) {
+    check_parts::<0>(&rt);
+    check_parts::<1>(&rt);
+    check_parts::<7>(&rt);
+    check_parts::<8>(&rt);
+    check_parts::<9>(&rt);
+    check_parts::<31>(&rt);
+    check_parts::<32>(&rt);
+    check_parts::<33>(&rt);
+    check_parts::<70>(&rt);
 }
 
 fn check_all<const N: usize>(rt: &impl Abort)

@@ -9,14 +9,14 @@ scale-requires-clause-fits g c = λ i d below. c.requires.is.products
 
 pub fill_addends-requires-clause-one : goal.fill_addends-requires-clause-one
 fill_addends-requires-clause-one g c =
-    parts_fit g.N.Numerator.width c.args._old.now c.args.k (factor c.args.factors.now 0) (factor c.args.factors.now 1) c.args._new.now
+    parts_fit g.N.Numerator.width c.args.old.now c.args.k (factor c.args.factors.now 0) (factor c.args.factors.now 1) c.args._new.now
     c.args.position.now.x c.args.position.now.y
     c.dither_numbers-pattern.result c.requires.is c.dither_numbers-pattern.ensures.numbers
 
 pub fill_addends-requires-clause-fits : goal.fill_addends-requires-clause-fits
 fill_addends-requires-clause-fits g c =
     λ j below. rw c.numerator.ensures
-    (unit_products g.N.Numerator.width c.args._old.now c.args.k (factor c.args.factors.now 0) (factor c.args.factors.now 1) c.args._new.now
+    (unit_products g.N.Numerator.width c.args.old.now c.args.k (factor c.args.factors.now 0) (factor c.args.factors.now 1) c.args._new.now
     c.args.position.now.x c.args.position.now.y
     c.dither_numbers-pattern.result c.requires.is c.dither_numbers-pattern.ensures.numbers j below)
 
@@ -36,5 +36,5 @@ returns-clause-made g c =
     at (c.add_pattern.ensures.set i d below) in
     dithered g.N.Numerator.value g.N.Numerator.width c.args.k c.args.position.now.x c.args.position.now.y (factor c.args.factors.now 0)
     (factor c.args.factors.now 1)
-    c.dither_numbers-pattern.result c.args.v c.args.numbers.now c.add_pattern.new.numbers c.args._old.now c.args._new.now
+    c.dither_numbers-pattern.result c.args.v c.args.numbers.now c.add_pattern.new.numbers c.args.old.now c.args._new.now
     c.requires.is c.dither_numbers-pattern.ensures.numbers c.requires.old adds

@@ -10,6 +10,9 @@ row_of_sums-requires-clause-fits g c =
     (c.requires.step c.loop-v.v (omega arith)).fits (lane_numbers g.N.Numerator.value c.args.numbers.now i d)
     (λ j some. c.requires.bounded.bound (linear_rational c.args.stage c.args._rows.now c.requires.follows) j i d some below)
 
+pub row_of_sums-requires-clause-within : goal.row_of_sums-requires-clause-within
+row_of_sums-requires-clause-within g c = c.requires.bounded.bound (linear_rational c.args.stage c.args._rows.now c.requires.follows)
+
 pub loop-v-preserved : goal.loop-v-preserved
 loop-v-preserved g c =
     λ v i d below within.

@@ -10,5 +10,5 @@ scale-requires-clause-fits g c = λ i d below. c.requires.is.products
 pub returns-clause-made : goal.returns-clause-made
 returns-clause-made g c =
     scaled g.N.Numerator.value g.N.Numerator.width c.args._by.now (factor c.args.factors.now 0) c.args.v c.args.numbers.now
-    c.scale.new.numbers c.args._old.now c.args._new.now
+    c.scale.new.numbers c.args.old.now c.args._new.now
     c.requires.is c.requires.old c.scale.ensures.set
