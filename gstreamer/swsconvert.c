@@ -118,8 +118,6 @@ static gboolean set_info(GstVideoFilter *filter, GstCaps *in_caps, GstVideoInfo 
     struct sws_conversion conversion = {0};
     (void)in_caps, (void)out_caps;
     forget(self);
-    if (GST_VIDEO_INFO_IS_INTERLACED(in) && self->dither)
-        GST_INFO_OBJECT(self, "the dither goes by the rows of the whole frame");
     if (!side_of(in, &conversion.from) || !side_of(out, &conversion.to))
         return FALSE;
     conversion.dither = self->dither;
@@ -139,30 +137,62 @@ static gboolean set_info(GstVideoFilter *filter, GstCaps *in_caps, GstVideoInfo 
     return !status;
 }
 
-/* Copies the rows of the planes of a frame to a raw frame, or back. */
-static void copy_planes(GstVideoFrame *frame, guint8 *raw, gboolean is_back)
+/* A plane of a frame: its first row, the bytes of a row, and those from row to row. */
+struct plane {
+    guint8 *rows;
+    gsize length;
+    gint stride;
+};
+
+static struct plane plane_of(GstVideoFrame *frame, guint number)
 {
-    for (guint plane = 0; plane < GST_VIDEO_FRAME_N_PLANES(frame); plane++) {
-        gint components[GST_VIDEO_MAX_COMPONENTS];
-        gst_video_format_info_component(frame->info.finfo, plane, components);
-        gsize length = (gsize)GST_VIDEO_FRAME_COMP_WIDTH(frame, components[0]) * GST_VIDEO_FRAME_COMP_PSTRIDE(frame, components[0]);
-        guint8 *row = GST_VIDEO_FRAME_PLANE_DATA(frame, plane);
-        for (gint y = 0; y < GST_VIDEO_FRAME_HEIGHT(frame); y++, raw += length, row += GST_VIDEO_FRAME_PLANE_STRIDE(frame, plane))
-            memcpy(is_back ? row : raw, is_back ? raw : row, length);
+    gint components[GST_VIDEO_MAX_COMPONENTS];
+    gst_video_format_info_component(frame->info.finfo, number, components);
+    return (struct plane){GST_VIDEO_FRAME_PLANE_DATA(frame, number),
+                          (gsize)GST_VIDEO_FRAME_COMP_WIDTH(frame, components[0]) *
+                              GST_VIDEO_FRAME_COMP_PSTRIDE(frame, components[0]),
+                          GST_VIDEO_FRAME_PLANE_STRIDE(frame, number)};
+}
+
+/* Whether the planes stand one behind the other without padding, as sws takes them. */
+static gboolean is_raw(GstVideoFrame *frame)
+{
+    const guint8 *at = GST_VIDEO_FRAME_PLANE_DATA(frame, 0);
+    for (guint number = 0; number < GST_VIDEO_FRAME_N_PLANES(frame); number++) {
+        struct plane plane = plane_of(frame, number);
+        if (plane.rows != at || plane.stride != (gint)plane.length)
+            return FALSE;
+        at += plane.length * GST_VIDEO_FRAME_HEIGHT(frame);
+    }
+    return TRUE;
+}
+
+/* Copies the rows of the planes of a frame to a raw frame, or back. */
+static void copy_rows(GstVideoFrame *frame, guint8 *raw, gboolean is_back)
+{
+    for (guint number = 0; number < GST_VIDEO_FRAME_N_PLANES(frame); number++) {
+        struct plane plane = plane_of(frame, number);
+        for (gint y = 0; y < GST_VIDEO_FRAME_HEIGHT(frame); y++, raw += plane.length, plane.rows += plane.stride)
+            memcpy(is_back ? plane.rows : raw, is_back ? raw : plane.rows, plane.length);
     }
 }
 
 static GstFlowReturn transform_frame(GstVideoFilter *filter, GstVideoFrame *in, GstVideoFrame *out)
 {
     SwsConvert *self = SWS_CONVERT(filter);
-    copy_planes(in, self->input, FALSE);
-    guint32 status = sws_run(&self->plan, 0, GST_VIDEO_FRAME_WIDTH(in), GST_VIDEO_FRAME_HEIGHT(in), self->input,
-                             self->input_length, self->output, self->output_length);
+    gboolean from_raw = is_raw(in), to_raw = is_raw(out);
+    guint8 *input = from_raw ? GST_VIDEO_FRAME_PLANE_DATA(in, 0) : self->input;
+    guint8 *output = to_raw ? GST_VIDEO_FRAME_PLANE_DATA(out, 0) : self->output;
+    if (!from_raw)
+        copy_rows(in, input, FALSE);
+    guint32 status = sws_run(&self->plan, 0, GST_VIDEO_FRAME_WIDTH(in), GST_VIDEO_FRAME_HEIGHT(in), input,
+                             self->input_length, output, self->output_length);
     if (status) {
         GST_ELEMENT_ERROR(self, STREAM, FAILED, (NULL), ("%s", sws_text(status)));
         return GST_FLOW_ERROR;
     }
-    copy_planes(out, self->output, TRUE);
+    if (!to_raw)
+        copy_rows(out, output, TRUE);
     return GST_FLOW_OK;
 }
 
@@ -243,4 +273,4 @@ static gboolean plugin_init(GstPlugin *plugin)
 }
 
 GST_PLUGIN_DEFINE(GST_VERSION_MAJOR, GST_VERSION_MINOR, swsconvert, "Exact conversion between pixel formats", plugin_init, "0.1",
-                  "Proprietary", PACKAGE, "https://localhost/")
+                  GST_LICENSE_UNKNOWN, PACKAGE, "sws")

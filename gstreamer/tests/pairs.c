@@ -1,5 +1,5 @@
 /* Holds swsconvert against the program, byte for byte, on every pair of formats that its pads know: pairs PROGRAM FOLDER.
- * Each frame is 37 by 5 random pixels, with a random matrix, range and dither, in buffers with GStreamer's own strides. */
+ * Each frame is 37 or 40 by 5 random pixels, with a random matrix, range and dither, in buffers with GStreamer's own strides. */
 #include <gst/app/gstappsink.h>
 #include <gst/app/gstappsrc.h>
 #include <gst/gst.h>
@@ -8,7 +8,10 @@
 #include <stdlib.h>
 #include <string.h>
 
-enum { WIDTH = 37, HEIGHT = 5 };
+/* the width of each call: odd, so that rows are padded, and a multiple of 8, so that most are not */
+static int width;
+
+enum { HEIGHT = 5, MOST = 40 };
 
 /* GStreamer's name, the program's name */
 static const char *const formats[][2] = {
@@ -42,7 +45,7 @@ struct side {
 static void make_side(struct side *side, int format, const char *in_or_out)
 {
     int matrix = rand() % 5;
-    gst_video_info_set_format(&side->info, gst_video_format_from_string(formats[format][0]), WIDTH, HEIGHT);
+    gst_video_info_set_format(&side->info, gst_video_format_from_string(formats[format][0]), width, HEIGHT);
     side->info.fps_n = 25;
     int is_limited = !GST_VIDEO_INFO_IS_RGB(&side->info) && rand() % 2;
     if (!GST_VIDEO_INFO_IS_RGB(&side->info)) {
@@ -64,7 +67,7 @@ static gsize pass_rows(GstBuffer *buffer, GstVideoInfo *info, guint8 *raw, gbool
     for (guint plane = 0; plane < GST_VIDEO_FRAME_N_PLANES(&frame); plane++) {
         gint parts[GST_VIDEO_MAX_COMPONENTS];
         gst_video_format_info_component(info->finfo, plane, parts);
-        gsize length = WIDTH * (gsize)GST_VIDEO_FRAME_COMP_PSTRIDE(&frame, parts[0]);
+        gsize length = width * (gsize)GST_VIDEO_FRAME_COMP_PSTRIDE(&frame, parts[0]);
         for (int y = 0; y < HEIGHT; y++, at += length) {
             guint8 *row = (guint8 *)GST_VIDEO_FRAME_PLANE_DATA(&frame, plane) + y * GST_VIDEO_FRAME_PLANE_STRIDE(&frame, plane);
             memcpy(is_filled ? row : at, is_filled ? at : row, length);
@@ -105,7 +108,7 @@ static gsize by_element(struct side *from, struct side *to, int dither, guint8 *
 static gsize by_program(const char *program, const char *folder, const char *words, const guint8 *input, gsize length, guint8 **output)
 {
     char *in = g_build_filename(folder, "in.raw", NULL), *out = g_build_filename(folder, "out.raw", NULL);
-    char *line = g_strdup_printf("'%s' %s --size %dx%d <'%s' >'%s'", program, words, WIDTH, HEIGHT, in, out);
+    char *line = g_strdup_printf("'%s' %s --size %dx%d <'%s' >'%s'", program, words, width, HEIGHT, in, out);
     gsize made = 0;
     if (!g_file_set_contents(in, (const char *)input, length, NULL) || system(line) ||
         !g_file_get_contents(out, (char **)output, &made, NULL))
@@ -118,10 +121,11 @@ static gsize by_program(const char *program, const char *folder, const char *wor
 
 static int is_same(const char *program, const char *folder, int from_format, int to_format)
 {
-    static guint8 input[8 * WIDTH * HEIGHT], output[8 * WIDTH * HEIGHT];
+    static guint8 input[8 * MOST * HEIGHT], output[8 * MOST * HEIGHT];
     struct side from, to;
     guint8 *wanted = NULL;
     int dither = rand() % 5;
+    width = rand() % 2 ? 37 : MOST;
     make_side(&from, from_format, "in");
     make_side(&to, to_format, "out");
     for (gsize i = 0; i < sizeof input; i++)
