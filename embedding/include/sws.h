@@ -171,7 +171,8 @@ static inline uint32_t sws_make(const struct sws_conversion *conversion, struct 
     return sws_plan_open(conversion, &plan->owner);
 }
 
-/* Makes another owner of a plan, for another thread; the plan is not copied. SWS_MEMORY, SWS_NULL, SWS_CLOSED. */
+/* Makes another owner of a plan, for another thread; the plan is not copied. `other` is new or closed. SWS_MEMORY, SWS_NULL,
+ * SWS_CLOSED. */
 static inline uint32_t sws_share(struct sws_plan *plan, struct sws_plan *other)
 {
     if (!plan || !other || plan == other)

@@ -1,12 +1,11 @@
 -- A conversion whose numbers are right has a plan.
-use Rattle.std.proofs.Common.{◌≡◌, ℕ, ◌<◌, ◌≤◌, Bool, true, false, refl, sym, ◌∙◌, ap, arith}
-use Rattle.std.specs.Prelude.{◌&&◌, ◌||◌, nat_eq, nat_lt, codes, Some}
+use Rattle.std.proofs.Common.{◌≡◌, ◌≤◌, Bool, true, false, refl, sym, ap}
+use Rattle.std.specs.Prelude.{◌||◌, nat_eq, nat_lt, codes, Some}
 use Rattle.std.proofs.lemmas.Bool.{eqb-true, ltb-true}
 use Rattle.frac_math.proofs.FractionRing.{and_left, and_right}
 use Rattle.colour_matrix.specs.declared.matrix.Matrix.{Matrix}
-use Rattle.colour_matrix.specs.Matrix.{bt601, bt709, bt2020, smpte240m, fcc, of_parts}
+use Rattle.colour_matrix.specs.Matrix.{bt601, bt709, bt2020, smpte240m, fcc}
 use Rattle.desc_table.specs.Format.{format_count}
-use Rattle.pix_meaning.specs.declared.pair.Pair.{Pair}
 use Rattle.row_plan.specs.Evaluated.{IsNamed, IsTableSide, IsPlannable}
 use Rattle.row_plan.proofs.Evaluated.{table_pairs_have_plans}
 use Rattle.frame_calls.specs.declared.conversion.ConversionSide.{ConversionSide}
@@ -33,7 +32,8 @@ named m is =
     either (IsNamed m) (has_parts m smpte240m) _ (λ t. record { name = codes "smpte240m"; found = ap Some (sym (same m smpte240m t)) })
     (λ t. record { name = codes "fcc"; found = ap Some (sym (same m fcc t)) })))) is
 
-table_side : (side : ConversionSide) → nat_lt side.format format_count ≡ true → is_named (matrix_of side) ≡ true → IsTableSide (side_of side)
+table_side : (side : ConversionSide) → nat_lt side.format format_count ≡ true → is_named (matrix_of side) ≡ true
+    → IsTableSide (side_of side)
 table_side side known matrix =
     record { id = side.format; known = ltb-true side.format format_count known; desc = refl; matrix = named (matrix_of side) matrix }
 

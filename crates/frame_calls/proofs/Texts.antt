@@ -1,6 +1,6 @@
 -- Bytes that are no text find nothing: every name of the lists is a text.
-use Rattle.std.proofs.Common.{◌≡◌, ℕ, ◌<◌, Bool, true, false, List, [], ◌∷◌, refl, sym, ◌∙◌, ap, subst}
-use Rattle.std.specs.Prelude.{◌&&◌, nat_lt, bytes_eq, find, codes, Option, Some, None, Err, if◌then◌else◌}
+use Rattle.std.proofs.Common.{◌≡◌, ℕ, Bool, true, false, List, [], ◌∷◌, refl, sym, subst}
+use Rattle.std.specs.Prelude.{nat_lt, bytes_eq, find, codes, Option, Some, None, Err}
 use Rattle.std.specs.List.{list_all}
 use Rattle.std.specs.Str.{IsUtf8}
 use Rattle.std.proofs.lemmas.Bool.{ltb-true}
@@ -21,7 +21,8 @@ is_ascii text = list_all (λ byte. nat_lt byte 128) text
 
 is_text : (text : List ℕ) → is_ascii text ≡ true → IsUtf8 text
 is_text text ascii =
-    IsUtf8-from_ascii text (IsAscii-from_all text (λ k d below. ltb-true _ _ (list_all-true (λ byte. nat_lt byte 128) text k d ascii below)))
+    IsUtf8-from_ascii text (IsAscii-from_all text (λ k d below.
+    ltb-true _ _ (list_all-true (λ byte. nat_lt byte 128) text k d ascii below)))
 
 formats_are_ascii : list_all (λ (format : Format). is_ascii format.name) formats ≡ true
 unfolding formats
@@ -69,6 +70,10 @@ other_name name bytes ascii broken = never_true _ (λ same. differs name bytes a
 -- and no matrix
 pub names_none : (bytes : List ℕ) → ¬ (IsUtf8 bytes) → matrix_named bytes ≡ None
 names_none bytes broken =
-    rw (other_name (codes "bt601") bytes refl broken, other_name (codes "bt709") bytes refl broken,
-    other_name (codes "bt2020") bytes refl broken, other_name (codes "smpte240m") bytes refl broken,
-    other_name (codes "fcc") bytes refl broken) refl
+    rw (
+      other_name (codes "bt601") bytes refl broken,
+      other_name (codes "bt709") bytes refl broken,
+      other_name (codes "bt2020") bytes refl broken,
+      other_name (codes "smpte240m") bytes refl broken,
+      other_name (codes "fcc") bytes refl broken,
+    ) refl

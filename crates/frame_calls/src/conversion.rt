@@ -3,7 +3,8 @@ ghost use Rattle.std.specs.Prelude.{◌≡◌, ◌<◌, false, IfOk, IsTrue};
 ghost use Rattle.desc_table.specs.Format.{desc_of, format_count};
 ghost use Rattle.row_plan.specs.Evaluated.{IsPlannable};
 ghost use Rattle.frame_calls.specs.Conversion.{is_named, has_formats, has_matrices, has_ranges};
-ghost use Rattle.frame_calls.specs.Conversion.{has_parts, matrix_of, range_of, side_of, pair_of, pair_asked};
+ghost use Rattle.frame_calls.specs.Conversion.{has_parts, matrix_of, range_of, side_of};
+ghost use Rattle.frame_calls.specs.Conversion.{pair_of, pair_asked};
 
 use crate::refusal::Refusal;
 use colour_matrix::{Matrix, Range};

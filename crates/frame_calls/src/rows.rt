@@ -98,12 +98,7 @@ pub fn plan_of(alloc: Global, conversion: &Conversion) -> Result<Plan, Refusal>
 /// the input with the whole palette where it has one; else the call says what is wrong, and changes
 /// nothing. It takes no memory.
 #[tactic(auto, unfolding(crate::specs::Calls::rows_asked))]
-pub fn convert_by(
-    plan: &Plan,
-    rows: &Rows,
-    input: &[u8],
-    output: &mut [u8],
-) -> Result<(), Refusal>
+pub fn convert_by(plan: &Plan, rows: &Rows, input: &[u8], output: &mut [u8]) -> Result<(), Refusal>
     ensures answer { result
         ≡ rows_asked plan.now.pair rows.now (length input.now) (length output.old) }
     ensures target { OnOk result (output.new ≡ target_rows plan.now.pair rows.now.width
@@ -137,8 +132,8 @@ pub fn convert(
     convert_by(&plan, rows, input, output)
 }
 
-/// A plan may cross threads, and be shared by them. A missing proof of it would else show only where
-/// the first threads are started.
+/// A plan may cross threads, and be shared by them. A missing proof of it would else show only
+/// where the first threads are started.
 pub fn crosses_threads() {
     crosses::<Plan>()
 }

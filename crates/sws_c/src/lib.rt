@@ -1,4 +1,5 @@
-//! The C library: each call answers 0 or the number of a refusal, and a refused call changes nothing.
+//! The C library: each call answers 0 or the number of a refusal, and a refused call changes
+//! nothing that it was given.
 //!
 //! A slice of bytes is a pointer and a length in C; the pointers themselves are tested in `sws.h`.
 #![tactic(auto)]

@@ -10,7 +10,8 @@ use parts::Parts;
 use std::alloc::Global;
 use std::marker::Model;
 
-/// What C holds: one pointer. It owns the block, which `Box::into_raw` gave away and `into_box` takes back.
+/// What C holds: one pointer. It owns the block, which `Box::into_raw` gave away and `into_box`
+/// takes back.
 #[repr(C)]
 pub struct PlanOwner {
     ptr: *mut u8,

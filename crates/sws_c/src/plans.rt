@@ -28,7 +28,8 @@ fn owner_of(alloc: Global, plan: Arc<Plan, Global>) -> Result<Box<SharedPlan>, R
 
 // The first owner of a new plan.
 fn opened(alloc: Global, conversion: &Conversion) -> Result<Box<SharedPlan>, Refusal>
-    ensures plan { IfOk result (λ owner. pair_asked conversion.now ≡ Ok (arc_value owner.value.plan).pair) }
+    ensures plan { IfOk result
+        (λ owner. pair_asked conversion.now ≡ Ok (arc_value owner.value.plan).pair) }
     ensures refusal { IfErr result (IsRefusalOf (pair_asked conversion.now)) }
 {
     let plan = plan_of(alloc, conversion)?;

@@ -27,7 +27,15 @@ fn converts_a_pixel(rt: HostRuntime) -> Result<(), Fail> {
     let mut output = [0; 3];
     assert_eq!(rt; sws_check(&conversion), 0);
     assert_eq!(rt;
-        sws_convert(rt.alloc(), &conversion, 0, 1, 1, &[81, 90, 240], &mut output),
+        sws_convert(
+            rt.alloc(),
+            &conversion,
+            0,
+            1,
+            1,
+            &[81, 90, 240],
+            &mut output
+        ),
         0
     );
     assert_eq!(rt; output, [254, 0, 0]);
