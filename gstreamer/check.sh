@@ -2,7 +2,7 @@
 # Builds the plugin, and compares what it makes of frames with what the program makes of them, byte for byte: every pair of formats
 # that both sides know, odd widths, frames with and without padding, and several matrices and ranges.
 # usage: gstreamer/check.sh [PROGRAM [ARCHIVE [INCLUDE]]]
-# Without them: ./sws, the archive that embedding/build.sh builds, and the folder of its header.
+# Without them: out/sws, which ./sws builds, the archive that embedding/build.sh builds, and the folder of its header.
 set -euo pipefail
 here=$(cd "$(dirname "${BASH_SOURCE[0]}")" && pwd)
 top=$(dirname "$here")
@@ -29,7 +29,8 @@ for element in videotestsrc rawvideoparse; do
     gst-inspect-1.0 --exists $element || skip "gstreamer1.0-plugins-base is not installed"
 done
 
-program=${1:-$top/sws}
+program=${1:-$top/out/sws}
+[ -x "$program" ] || "$top/sws" --task list >/dev/null
 archive=${2:-$work/lib/libsws.a}
 [ $# -ge 2 ] || "$top/embedding/build.sh" "$work/lib"
 make -s -C "$here" OUT="$work" SWS_LIB="$archive" SWS_INCLUDE="${3:-$top/embedding/include}" all "$work/frames"
@@ -45,16 +46,17 @@ fail() {
     exit 1
 }
 
-# A side is '-' where neither caps nor words say anything, else range:matrix by the numbers of GStreamer's colorimetry.
-ranges=(- full limited) matrices=(- - fcc bt709 bt601 smpte240m bt2020)
+# A side is '-' where neither caps nor words say anything, else range:matrix by the numbers of GStreamer's colorimetry; range 0
+# is none.
+ranges=("" full limited) matrices=("" "" fcc bt709 bt601 smpte240m bt2020)
 
 # what the caps of a side say, and the words for the program, by the kind of the format
 declare -A caps words
 set_side() { # in or out, side
-    local kind
+    local kind range=${ranges[${2%:*}]} matrix=${matrices[${2#*:}]}
     for kind in rgb gray yuv; do
         caps[$1/$kind]=$2:0:0
-        words[$1/$kind]="--$1-range ${ranges[${2%:*}]} --$1-matrix ${matrices[${2#*:}]}"
+        words[$1/$kind]="--$1-matrix $matrix ${range:+--$1-range $range}"
     done
     caps[$1/rgb]=1:1:0:0 words[$1/rgb]=
 }
@@ -127,7 +129,7 @@ done <<'END'
 drawn  17 19 0 -   -
 drawn  35 18 3 1:3 2:6
 random 13  6 1 2:5 1:2
-random  1  1 0 1:6 1:4
+random  1  1 0 0:6 1:4
 END
 count=$(wc -l <"$work/table")
 echo "gstreamer: $compared conversions compared with the program, $count formats to $count, no difference"
