@@ -1,9 +1,9 @@
 /* What check.sh has to know of frames from GStreamer itself.
  *
- * frames table                      a line for each shared format: GStreamer's name, that of sws, rgb or yuv or gray
- * frames strip FORMAT WIDTH HEIGHT  frames with GStreamer's own strides, from standard input, as rows without padding
- * frames planes FORMAT WIDTH HEIGHT the options for rawvideoparse of frames whose rows have no padding
- * frames layouts                    compares the list of `sws --task list`, from standard input, with GStreamer's own reading
+ * frames table                              a line for each shared format: GStreamer's name, that of sws, rgb or yuv or gray
+ * frames strip WIDTH HEIGHT FORMAT=FILE..   files of frames with GStreamer's own strides: takes out what stands between rows
+ * frames planes WIDTH HEIGHT FORMAT         the options for rawvideoparse of frames with nothing between rows
+ * frames layouts                            compares the list of `sws --task list`, from standard input, with GStreamer's own reading
  */
 #include <gst/video/video.h>
 #include <stdio.h>
@@ -56,32 +56,70 @@ print_table (void)
 }
 
 static GstVideoInfo
-info_of (char **arguments)
+info_of (const char *format, char **size)
 {
   GstVideoInfo info;
 
-  if (!gst_video_info_set_format (&info, gst_video_format_from_string
-          (arguments[0]), atoi (arguments[1]), atoi (arguments[2])))
-    fail ("no such frame", arguments[0]);
+  if (!gst_video_info_set_format (&info, gst_video_format_from_string (format),
+          atoi (size[0]), atoi (size[1])))
+    fail ("no such frame", format);
   return info;
 }
 
 /* --- frames --- */
 
-static int
-strip (GstVideoInfo info)
+/* Moves the rows of a frame together to `to`, and gives where they end. */
+static guint8 *
+strip_frame (const GstVideoInfo * info, const guint8 * frame, guint8 * to)
 {
-  guint8 *frame = g_malloc (GST_VIDEO_INFO_SIZE (&info));
   guint plane;
   int row;
 
-  while (fread (frame, GST_VIDEO_INFO_SIZE (&info), 1, stdin) == 1)
-    for (plane = 0; plane < GST_VIDEO_INFO_N_PLANES (&info); plane++)
-      for (row = 0; row < GST_VIDEO_INFO_HEIGHT (&info); row++)
-        fwrite (frame + GST_VIDEO_INFO_PLANE_OFFSET (&info, plane) +
-            (gsize) row * GST_VIDEO_INFO_PLANE_STRIDE (&info, plane),
-            shared_row_bytes (&info, plane), 1, stdout);
-  g_free (frame);
+  for (plane = 0; plane < GST_VIDEO_INFO_N_PLANES (info); plane++) {
+    const guint8 *at = frame + GST_VIDEO_INFO_PLANE_OFFSET (info, plane);
+    gsize length = shared_row_bytes (info, plane);
+
+    for (row = 0; row < GST_VIDEO_INFO_HEIGHT (info); row++) {
+      memmove (to, at, length);
+      to += length;
+      at += GST_VIDEO_INFO_PLANE_STRIDE (info, plane);
+    }
+  }
+  return to;
+}
+
+static void
+strip_file (const char *format, const char *file, char **size)
+{
+  GstVideoInfo info = info_of (format, size);
+  gsize frame = GST_VIDEO_INFO_SIZE (&info), length, at;
+  gchar *bytes;
+  guint8 *end;
+
+  if (!g_file_get_contents (file, &bytes, &length, NULL) || length % frame != 0)
+    fail ("not frames", file);
+  end = (guint8 *) bytes;
+  for (at = 0; at < length; at += frame)
+    end = strip_frame (&info, (guint8 *) bytes + at, end);
+  if (!g_file_set_contents (file, bytes, end - (guint8 *) bytes, NULL))
+    fail ("cannot be written", file);
+  g_free (bytes);
+}
+
+/* Each argument is FORMAT=FILE. */
+static int
+strip (int count, char **arguments, char **size)
+{
+  int i;
+
+  for (i = 0; i < count; i++) {
+    char *file = strchr (arguments[i], '=');
+
+    if (file == NULL)
+      fail ("no file", arguments[i]);
+    *file = 0;
+    strip_file (arguments[i], file + 1, size);
+  }
   return 0;
 }
 
@@ -219,10 +257,10 @@ main (int count, char **arguments)
     return print_table ();
   if (count == 2 && strcmp (arguments[1], "layouts") == 0)
     return compare_layouts ();
-  if (count == 5 && strcmp (arguments[1], "strip") == 0)
-    return strip (info_of (arguments + 2));
+  if (count >= 4 && strcmp (arguments[1], "strip") == 0)
+    return strip (count - 4, arguments + 4, arguments + 2);
   if (count == 5 && strcmp (arguments[1], "planes") == 0)
-    return print_planes (info_of (arguments + 2));
-  fail ("usage", "frames table|layouts, or strip|planes FORMAT WIDTH HEIGHT");
+    return print_planes (info_of (arguments[4], arguments + 2));
+  fail ("usage", "see the head of frames.c");
   return 1;
 }

@@ -345,6 +345,39 @@ copy_rows (GstVideoFrame * frame, guint first, guint rows, guint8 * packed,
   }
 }
 
+/* Whether a frame is a raw frame already: its planes one behind the other, rows without padding. */
+static gboolean
+is_raw (GstVideoFrame * frame)
+{
+  const guint8 *at = GST_VIDEO_FRAME_PLANE_DATA (frame, 0);
+  guint plane;
+
+  for (plane = 0; plane < GST_VIDEO_FRAME_N_PLANES (frame); plane++) {
+    gsize length = shared_row_bytes (&frame->info, plane);
+
+    if (GST_VIDEO_FRAME_PLANE_DATA (frame, plane) != at ||
+        GST_VIDEO_FRAME_PLANE_STRIDE (frame, plane) != (gssize) length)
+      return FALSE;
+    at += length * GST_VIDEO_FRAME_HEIGHT (frame);
+  }
+  return TRUE;
+}
+
+/* Converts some rows, each side a raw frame of these rows. */
+static gboolean
+convert_rows (SwsConvert * self, guint width, guint first, guint rows,
+    const guint8 * source, guint8 * target)
+{
+  guint32 status = sws_run (&self->plan, first, width, rows,
+      source, self->source.row_bytes * rows,
+      target, self->target.row_bytes * rows);
+
+  if (status != SWS_OK)
+    GST_ELEMENT_ERROR (self, LIBRARY, FAILED, (NULL),
+        ("rows %u to %u: %s", first, first + rows - 1, sws_text (status)));
+  return status == SWS_OK;
+}
+
 static GstFlowReturn
 sws_convert_transform_frame (GstVideoFilter * filter, GstVideoFrame * in,
     GstVideoFrame * out)
@@ -354,19 +387,17 @@ sws_convert_transform_frame (GstVideoFilter * filter, GstVideoFrame * in,
   guint height = GST_VIDEO_FRAME_HEIGHT (in);
   guint first, rows;
 
-  for (first = 0; first < height; first += rows) {
-    guint32 status;
+  if (is_raw (in) && is_raw (out))
+    return convert_rows (self, width, 0, height,
+        GST_VIDEO_FRAME_PLANE_DATA (in, 0),
+        GST_VIDEO_FRAME_PLANE_DATA (out, 0)) ? GST_FLOW_OK : GST_FLOW_ERROR;
 
+  for (first = 0; first < height; first += rows) {
     rows = MIN (SLICE_ROWS, height - first);
     copy_rows (in, first, rows, self->source.bytes, FALSE);
-    status = sws_run (&self->plan, first, width, rows,
-        self->source.bytes, self->source.row_bytes * rows,
-        self->target.bytes, self->target.row_bytes * rows);
-    if (status != SWS_OK) {
-      GST_ELEMENT_ERROR (self, LIBRARY, FAILED, (NULL),
-          ("rows %u to %u: %s", first, first + rows - 1, sws_text (status)));
+    if (!convert_rows (self, width, first, rows,
+            self->source.bytes, self->target.bytes))
       return GST_FLOW_ERROR;
-    }
     copy_rows (out, first, rows, self->target.bytes, TRUE);
   }
   return GST_FLOW_OK;
