@@ -1,6 +1,6 @@
 -- Values that are replaced by given ones: what a block holds, and its bounds.
-use Rattle.std.proofs.Common.{◌≡◌, ℕ, ◌+◌, ◌*◌, ◌^◌, ◌<◌, ◌≤◌, Bool, true, false, ◌||◌, ◌&&◌, nat_eq, nat_lt, List, ℤ, pos, negsuc}
-use Rattle.std.proofs.Common.{slice_index, slice_index_or, refl, sym, ap, ◌∙◌, arith, subst}
+use Rattle.std.proofs.Common.{◌≡◌, ℕ, ◌+◌, ◌*◌, ◌^◌, ◌<◌, ◌≤◌, Bool, true, false, ◌||◌, nat_eq, List, ℤ, pos, negsuc}
+use Rattle.std.proofs.Common.{slice_index, slice_index_or, refl, sym, ◌∙◌, arith, subst}
 use Rattle.std.specs.Prelude.{Option, Some, None, unsigned_abs, IfSome, ◌≤ℤ◌}
 use Rattle.std.specs.Int.{Width}
 use Rattle.std.proofs.lemmas.Bool.{and_parts, ltb-true}
@@ -13,8 +13,8 @@ use Rattle.op_list.specs.declared.op.Op.TheVariants.{Clear}
 use Rattle.op_list.specs.declared.position.PixelPosition.{PixelPosition}
 use Rattle.op_list.specs.declared.values.Values.{Values}
 use Rattle.op_list.specs.declared.values.Values.TheVariants.{Numbers, Fractions}
-use Rattle.op_list.specs.Types.{bits_at, is_whole, is_rational}
-use Rattle.op_list.specs.Typing.{are_good, all_fit, entry_fits, fits_bits, is_below, stage_after}
+use Rattle.op_list.specs.Types.{bits_at, is_rational}
+use Rattle.op_list.specs.Typing.{are_good, all_fit, entry_fits, is_below, stage_after}
 use Rattle.op_list.specs.Values.{number, fraction, fraction_in, entry, are_fractions}
 use Rattle.op_list.specs.Apply.{apply, cleared, cleared_number, cleared_fraction}
 use Rattle.std.proofs.Math.Nat.{pow-le-pow_right}
@@ -22,8 +22,7 @@ use Rattle.op_list.proofs.Applied.{bits_most}
 use Rattle.op_list.proofs.GivenEntries.{fits_at}
 use Rattle.kernel_int.specs.declared.form.Extent.{Extent}
 use Rattle.kernel_int.specs.declared.form.Form.{Form}
-use Rattle.kernel_int.specs.Block.{pixel_at}
-use Rattle.kernel_int.specs.Forms.{IsBounded, IsCleared, IsState, Performs, cleared_numerator, denominator, extent_at, factor, factors_at}
+use Rattle.kernel_int.specs.Forms.{IsBounded, IsCleared, Performs, cleared_numerator, denominator, extent_at, factor, factors_at}
 use Rattle.kernel_int.proofs.Fours.{four_at}
 use Rattle.kernel_int.proofs.Swizzles.{rational_not_whole}
 

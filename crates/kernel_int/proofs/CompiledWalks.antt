@@ -1,12 +1,10 @@
 -- On the way through a whole list: where an operation stands that is neither the first nor the last, and the width before it.
-use Rattle.std.proofs.Common.{◌≡◌, ℕ, ◌+◌, ◌-◌, ◌^◌, ◌<◌, ◌≤◌, Bool, true, false, List, [], ◌∷◌, ◌++◌, length, refl, sym, ap, ◌∙◌, arith, subst}
-use Rattle.op_list.specs.declared.types.PixType.TheVariants.{U8, U16, U32, Rat}
+use Rattle.std.proofs.Common.{◌≡◌, ℕ, ◌+◌, ◌-◌, ◌<◌, true, false, List, [], ◌∷◌, ◌++◌, length, refl, sym, ap, ◌∙◌, arith, subst}
 use Rattle.op_list.specs.declared.types.Stage.{Stage}
 use Rattle.op_list.specs.declared.types.Stage.TheVariants.{Start, Typed, Ended}
 use Rattle.op_list.specs.declared.op.Op.{Op}
-use Rattle.op_list.specs.declared.op.Op.TheVariants.{Read, Write, SwapBytes, Unpack, Pack, Clear, LeftShift, RightShift, Swizzle, Convert}
-use Rattle.op_list.specs.declared.op.Op.TheVariants.{Dither, Linear, Scale, Min, Max}
-use Rattle.op_list.specs.Types.{is_start, is_typed, is_rational}
+use Rattle.op_list.specs.declared.op.Op.TheVariants.{Read, Write, Convert}
+use Rattle.op_list.specs.Types.{is_start, is_typed}
 use Rattle.op_list.specs.Typing.{may_follow, stage_after, are_typed, is_write}
 use Rattle.op_range.specs.declared.width.Width.{Width}
 use Rattle.kernel_int.specs.declared.form.Form.{Form}

@@ -1,7 +1,7 @@
 -- A row that is cut out of the planes of a frame.
 use Rattle.std.proofs.Common.{◌≡◌, ℕ, zero, suc, ◌+◌, ◌-◌, ◌*◌, ◌<◌, ◌≤◌, ⊎_elim, true, false, Bool, List, [], ◌∷◌, ◌++◌, length, take, drop}
 use Rattle.std.proofs.Common.{slice_index, refl, sym, ap, ◌∙◌, arith}
-use Rattle.std.specs.Prelude.{sum, if◌then◌else◌}
+use Rattle.std.specs.Prelude.{sum}
 use Rattle.std.proofs.lemmas.Bool.{cases_lt}
 use Rattle.std.proofs.lemmas.List.{take-append-drop, length-take, length-take-le, length-drop, get_or-take, get_or-drop}
 use Rattle.std.proofs.Math.Nat.{mul-le-mul_right}
@@ -18,7 +18,7 @@ use Rattle.op_list.specs.declared.values.Values.TheVariants.{Numbers}
 use Rattle.op_list.specs.Values.{no_values, four}
 use Rattle.op_list.specs.Apply.{apply}
 use Rattle.op_list.proofs.Elements.{sum-cons}
-use Rattle.kernel_int.specs.Block.{position_at, colour_byte, colour_in}
+use Rattle.kernel_int.specs.Block.{position_at, colour_byte}
 use Rattle.kernel_int.specs.Forms.{planes_of, elem_of}
 use Rattle.kernel_int.specs.Planes.{AreRows, has_planes, palette_length, row_at, row_element, row_frame, row_length, row_list}
 use Rattle.kernel_int.proofs.Kernels.{read_good, write_good}

@@ -1,6 +1,6 @@
 -- The dither of the pixels of a row, as whole numbers of parts, and what is added to the numbers of a block.
 use Rattle.std.proofs.Common.{◌≡◌, ℕ, zero, suc, ◌+◌, ◌*◌, ◌/◌, ◌%◌, ◌^◌, ◌-◌, ◌<◌, ◌≤◌, List, ℤ, pos, negsuc, ◌+ℤ◌, ◌*ℤ◌, slice_index}
-use Rattle.std.proofs.Common.{slice_index_or, refl, sym, ap, ◌∙◌, arith, subst}
+use Rattle.std.proofs.Common.{slice_index_or, sym, ap, ◌∙◌, arith}
 use Rattle.std.specs.Prelude.{◌≤ℤ◌, unsigned_abs, FitsSigned}
 use Rattle.std.proofs.Math.IntN.{*ℤ_comm}
 use Rattle.frac_math.proofs.Integers.{mul-one_ℤ}

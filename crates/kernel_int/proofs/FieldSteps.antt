@@ -1,5 +1,5 @@
 -- Numbers cut into fields, and put together: what a block holds, and its bounds.
-use Rattle.std.proofs.Common.{◌≡◌, ℕ, zero, suc, ◌+◌, ◌*◌, ◌/◌, ◌%◌, ◌^◌, ◌<◌, ◌≤◌, ◌⊎◌, ⊎_elim, Bool, true, false, ◌&&◌, List, [], ◌∷◌, ℤ}
+use Rattle.std.proofs.Common.{◌≡◌, ℕ, zero, suc, ◌+◌, ◌*◌, ◌/◌, ◌%◌, ◌^◌, ◌<◌, ◌≤◌, ◌⊎◌, ⊎_elim, true, false, ◌&&◌, List, [], ◌∷◌, ℤ}
 use Rattle.std.proofs.Common.{length, get_or, slice_index, slice_index_or, refl, sym, ap, ◌∙◌, arith, subst}
 use Rattle.std.specs.Prelude.{sum, nat_le}
 use Rattle.std.proofs.lemmas.Bool.{and_parts, leb-true}
@@ -8,18 +8,16 @@ use Rattle.std.proofs.Math.Nat.{mod-lt, pow-le-pow_right}
 use Rattle.op_list.specs.declared.types.Stage.{Stage}
 use Rattle.op_list.specs.declared.op.Op.TheVariants.{Unpack, Pack}
 use Rattle.op_list.specs.declared.position.PixelPosition.{PixelPosition}
-use Rattle.op_list.specs.declared.values.Values.{Values}
-use Rattle.op_list.specs.Types.{bits_at, is_whole, is_rational}
+use Rattle.op_list.specs.Types.{bits_at}
 use Rattle.op_list.specs.Typing.{may_follow, are_good, are_counts, are_in_front, stage_after}
-use Rattle.op_list.specs.Values.{number, are_fractions}
+use Rattle.op_list.specs.Values.{number}
 use Rattle.op_list.specs.Whole.{bits_below, field, placed}
 use Rattle.op_list.specs.Apply.{apply, packed}
 use Rattle.op_list.proofs.Applied.{whole_before, whole_not_rational}
 use Rattle.op_list.proofs.Fields.{placed_below}
-use Rattle.op_list.proofs.Four.{from_four, sum_four, bits_below_first, bits_below_second, bits_below_third, bits_below_fourth}
+use Rattle.op_list.proofs.Four.{sum_four, bits_below_first, bits_below_second, bits_below_third, bits_below_fourth}
 use Rattle.kernel_int.specs.declared.form.Form.{Form}
-use Rattle.kernel_int.specs.Block.{pixel_at}
-use Rattle.kernel_int.specs.Forms.{IsBounded, IsState, Performs}
+use Rattle.kernel_int.specs.Forms.{IsBounded, Performs}
 use Rattle.kernel_int.proofs.Fours.{four_at}
 use Rattle.kernel_int.proofs.Intervals.{four_cases}
 

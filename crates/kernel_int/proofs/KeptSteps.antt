@@ -1,5 +1,5 @@
 -- Fractions that become fractions: what a block holds, and its bounds.
-use Rattle.std.proofs.Common.{◌≡◌, ℕ, ◌<◌, ◌≤◌, Bool, true, false, List, ℤ, refl, sym, ap, ◌∙◌, arith}
+use Rattle.std.proofs.Common.{◌≡◌, ℕ, Bool, true, false, List, ℤ, refl, ◌∙◌}
 use Rattle.op_list.specs.declared.types.PixType.{PixType}
 use Rattle.op_list.specs.declared.types.PixType.TheVariants.{U8, U16, U32, Rat}
 use Rattle.op_list.specs.declared.types.Stage.{Stage}
@@ -13,7 +13,7 @@ use Rattle.op_list.specs.Typing.{may_follow, stage_after}
 use Rattle.op_list.specs.Values.{fraction, are_fractions}
 use Rattle.op_list.specs.Apply.{apply, converted}
 use Rattle.kernel_int.specs.declared.form.Form.{Form}
-use Rattle.kernel_int.specs.Forms.{AreKept, IsBounded, IsState, Performs}
+use Rattle.kernel_int.specs.Forms.{AreKept, IsBounded, Performs}
 
 -- values of a type are whole numbers or fractions
 typed_kind : (stage : Stage) → is_typed stage ≡ true → is_whole stage ≡ false → is_rational stage ≡ true

@@ -1,6 +1,6 @@
 -- Value v of a block, but at most or at least a limit.
 use Rattle.std.proofs.Common.{◌≡◌, ℕ, ◌+◌, ◌*◌, ◌<◌, List, ℤ, ◌*ℤ◌, slice_index_or, arith}
-use Rattle.std.specs.Prelude.{Some, ◌≤ℤ◌}
+use Rattle.std.specs.Prelude.{◌≤ℤ◌}
 use Rattle.std.proofs.lemmas.Int.{ints}
 use Rattle.std.specs.Int.{Width}
 use Rattle.frac_math.specs.Fraction.{ℚ, min_ℚ, max_ℚ}

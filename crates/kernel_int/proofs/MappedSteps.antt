@@ -1,18 +1,18 @@
 -- Operations that make each whole number of one: what a block holds, and its bounds.
-use Rattle.std.proofs.Common.{◌≡◌, ℕ, ◌+◌, ◌*◌, ◌/◌, ◌%◌, ◌^◌, ◌<◌, ◌≤◌, ◌⊎◌, ⊎_elim, true, false, List, ℤ, slice_index, slice_index_or}
+use Rattle.std.proofs.Common.{◌≡◌, ℕ, ◌+◌, ◌*◌, ◌/◌, ◌%◌, ◌^◌, ◌<◌, ◌≤◌, true, false, List, ℤ, slice_index_or}
 use Rattle.std.proofs.Common.{sym, ap, ◌∙◌, arith, subst}
 use Rattle.op_list.specs.declared.types.Stage.{Stage}
 use Rattle.op_list.specs.declared.op.Op.{Op}
 use Rattle.op_list.specs.declared.position.PixelPosition.{PixelPosition}
 use Rattle.op_list.specs.declared.values.Values.{Values}
-use Rattle.op_list.specs.Types.{bits_at, is_whole, is_rational}
+use Rattle.op_list.specs.Types.{bits_at, is_whole}
 use Rattle.op_list.specs.Typing.{stage_after}
 use Rattle.op_list.specs.Values.{number, are_fractions}
 use Rattle.op_list.specs.Apply.{apply}
 use Rattle.op_list.proofs.Applied.{whole_not_rational}
 use Rattle.kernel_int.specs.declared.form.Form.{Form}
 use Rattle.kernel_int.specs.Block.{pixel_at, AreBelow}
-use Rattle.kernel_int.specs.Forms.{IsBounded, IsState, Performs}
+use Rattle.kernel_int.specs.Forms.{IsBounded, Performs}
 
 -- each of the first numbers is made of the old one
 abbrev pub Maps : {W : Type 0} → (W → ℕ) → (ℕ → ℕ) → ℕ → List W → List W → Type 0

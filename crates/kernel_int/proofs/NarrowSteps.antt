@@ -1,11 +1,11 @@
 -- Fractions become whole numbers: what a block holds, and its bounds.
-use Rattle.std.proofs.Common.{◌≡◌, ℕ, ◌+◌, ◌*◌, ◌/◌, ◌%◌, ◌^◌, ◌<◌, ◌≤◌, Bool, true, List, ℤ, pos, negsuc, length, slice_index_or, refl}
+use Rattle.std.proofs.Common.{◌≡◌, ℕ, ◌+◌, ◌*◌, ◌/◌, ◌%◌, ◌^◌, ◌<◌, ◌≤◌, Bool, true, List, ℤ, pos, negsuc, length, slice_index_or}
 use Rattle.std.proofs.Common.{sym, ap, ◌∙◌, arith}
 use Rattle.std.specs.Prelude.{◌≤ℤ◌, unsigned_abs}
 use Rattle.std.specs.Int.{Width, int_div_euclid}
 use Rattle.std.proofs.Math.Nat.{mod-eq_of_lt, div-lt_iff_lt-mul}
 use Rattle.std.proofs.lemmas.Int.{ints}
-use Rattle.frac_math.specs.Fraction.{ℚ, floor}
+use Rattle.frac_math.specs.Fraction.{floor}
 use Rattle.frac_math.specs.Standing.{Stands}
 use Rattle.frac_math.proofs.Floor.{floor_stands}
 use Rattle.op_list.specs.declared.types.PixType.{PixType}
@@ -16,7 +16,7 @@ use Rattle.op_list.specs.declared.op.Op.TheVariants.{Convert}
 use Rattle.op_list.specs.declared.position.PixelPosition.{PixelPosition}
 use Rattle.op_list.specs.declared.values.Values.{Values}
 use Rattle.op_list.specs.declared.values.Values.TheVariants.{Numbers, Fractions}
-use Rattle.op_list.specs.Types.{bits, bits_at, is_whole_type, is_rational}
+use Rattle.op_list.specs.Types.{bits, is_whole_type, is_rational}
 use Rattle.op_list.specs.Typing.{stage_after}
 use Rattle.op_list.specs.Values.{number, fraction, fraction_in, are_fractions}
 use Rattle.op_list.specs.Whole.{modulo}

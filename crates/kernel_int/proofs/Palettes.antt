@@ -1,5 +1,5 @@
 -- Colours of a palette: what a block holds.
-use Rattle.std.proofs.Common.{◌≡◌, ℕ, zero, suc, ◌+◌, ◌*◌, ◌^◌, ◌<◌, ◌≤◌, ◌⊎◌, inl, true, false, Bool, List, ◌++◌, slice_index}
+use Rattle.std.proofs.Common.{◌≡◌, ℕ, zero, suc, ◌+◌, ◌*◌, ◌<◌, ◌≤◌, ◌⊎◌, inl, true, false, Bool, List, ◌++◌, slice_index}
 use Rattle.std.proofs.Common.{slice_index_or, length, refl, sym, ap, ◌∙◌, arith, subst, below_more, get_or-append-add}
 use Rattle.std.proofs.Math.ListN.{get_or-append}
 use Rattle.std.proofs.lemmas.List.{nil_from_length}
@@ -15,7 +15,7 @@ use Rattle.op_list.specs.Typing.{are_good, are_counts}
 use Rattle.op_list.specs.Pixel.{colours, palette_colours, pixel_count, pixel_number}
 use Rattle.op_list.specs.Values.{number}
 use Rattle.op_list.specs.Apply.{apply}
-use Rattle.std.specs.Prelude.{◌&&◌, ◌||◌, not, [], ◌∷◌}
+use Rattle.std.specs.Prelude.{◌&&◌, [], ◌∷◌}
 use Rattle.std.specs.Str.{bytes_eq}
 use Rattle.std.proofs.lemmas.Bool.{and_parts}
 use Rattle.kernel_int.specs.Block.{Holds, AreBelow, colour_byte, colour_in}

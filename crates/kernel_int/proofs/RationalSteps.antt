@@ -7,14 +7,14 @@ use Rattle.op_list.specs.declared.types.Stage.{Stage}
 use Rattle.op_list.specs.declared.types.PixType.TheVariants.{Rat}
 use Rattle.op_list.specs.declared.op.Op.TheVariants.{Convert, Linear}
 use Rattle.op_list.specs.declared.position.PixelPosition.{PixelPosition}
-use Rattle.op_list.specs.Types.{bits_at, is_whole, is_rational}
+use Rattle.op_list.specs.Types.{bits_at, is_rational}
 use Rattle.op_list.specs.Typing.{stage_after, may_follow}
 use Rattle.op_list.specs.Apply.{apply, row_of, row_value}
 use Rattle.op_list.proofs.Applied.{whole_not_rational}
 use Rattle.kernel_int.specs.declared.form.Form.{Form}
 use Rattle.kernel_int.specs.Block.{AreBelow}
 use Rattle.kernel_int.specs.Rules.{row_sum, lane_numbers}
-use Rattle.kernel_int.specs.Forms.{extent_at, factors_at, AreWidened, IsBounded, IsWidened, IsRow, Performs}
+use Rattle.kernel_int.specs.Forms.{extent_at, factors_at, AreWidened, IsBounded, IsRow, Performs}
 use Rattle.kernel_int.proofs.Fours.{four_at}
 use Rattle.kernel_int.proofs.Kernels.{some_element}
 use Rattle.kernel_int.proofs.Swizzles.{rational_not_whole}

@@ -1,5 +1,5 @@
 -- Value v of a block times a factor.
-use Rattle.std.proofs.Common.{◌≡◌, ℕ, ◌+◌, ◌*◌, ◌<◌, ◌≤◌, List, ℤ, ◌*ℤ◌, slice_index_or}
+use Rattle.std.proofs.Common.{◌≡◌, ℕ, ◌+◌, ◌*◌, ◌<◌, List, ℤ, ◌*ℤ◌, slice_index_or}
 use Rattle.std.specs.Int.{Width}
 use Rattle.frac_math.specs.Fraction.{ℚ, nat, ◌*ℚ◌}
 use Rattle.kernel_int.specs.declared.form.Extent.{Extent}

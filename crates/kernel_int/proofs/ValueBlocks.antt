@@ -1,5 +1,5 @@
 -- Operations that make each value from that value alone: what a block holds, and its bounds.
-use Rattle.std.proofs.Common.{◌≡◌, ℕ, ◌+◌, ◌*◌, ◌<◌, ◌≤◌, Bool, true, false, List, ℤ, slice_index_or, refl, ap, ◌∙◌, arith, inl, below_more}
+use Rattle.std.proofs.Common.{◌≡◌, ℕ, ◌+◌, ◌*◌, ◌<◌, ◌≤◌, true, List, ℤ, slice_index_or, refl, ◌∙◌, arith}
 use Rattle.std.proofs.lemmas.Bool.{leb-true}
 use Rattle.std.specs.Int.{Width}
 use Rattle.frac_math.specs.Fraction.{ℚ, nat, ◌+ℚ◌, ◌*ℚ◌}
@@ -10,10 +10,9 @@ use Rattle.op_list.specs.declared.op.Op.TheVariants.{Read, Write, SwapBytes, Unp
 use Rattle.op_list.specs.declared.op.Op.TheVariants.{Dither, Linear, Scale, Min, Max}
 use Rattle.op_list.specs.declared.position.PixelPosition.{PixelPosition}
 use Rattle.op_list.specs.declared.values.Values.{Values}
-use Rattle.op_list.specs.declared.values.Values.TheVariants.{Numbers, Fractions}
 use Rattle.op_list.specs.Types.{is_rational}
 use Rattle.op_list.specs.Typing.{are_good, may_follow, stage_after}
-use Rattle.op_list.specs.Values.{fraction, fraction_in, entry, are_fractions}
+use Rattle.op_list.specs.Values.{fraction, entry, are_fractions}
 use Rattle.op_list.specs.Apply.{apply, at_least, at_most}
 use Rattle.kernel_int.specs.declared.form.Extent.{Extent}
 use Rattle.kernel_int.specs.declared.form.Form.{Form}

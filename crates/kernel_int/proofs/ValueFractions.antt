@@ -1,6 +1,6 @@
 -- Numerators over their own denominators: what a factor, a limit, a given number and a dither make of the fractions that they stand for.
-use Rattle.std.proofs.Common.{◌≡◌, ℕ, ◌+◌, ◌*◌, ◌^◌, ◌%◌, ◌<◌, ◌≤◌, ⊎_elim, ℤ, pos, ◌+ℤ◌, ◌*ℤ◌, [], ◌∷◌, refl, sym, ap, ◌∙◌, subst, arith}
-use Rattle.std.specs.Prelude.{◌≤ℤ◌, unsigned_abs, Option, Some, None}
+use Rattle.std.proofs.Common.{◌≡◌, ℕ, ◌*◌, ◌^◌, ◌<◌, ⊎_elim, ℤ, pos, ◌+ℤ◌, ◌*ℤ◌, [], ◌∷◌, refl, sym, subst, arith}
+use Rattle.std.specs.Prelude.{◌≤ℤ◌, unsigned_abs}
 use Rattle.std.specs.Int.{Width}
 use Rattle.std.proofs.lemmas.Int.{ints}
 use Rattle.frac_math.specs.Fraction.{ℚ, nat, ◌+ℚ◌, ◌*ℚ◌, min_ℚ, max_ℚ, ◌≤ℚ◌}
@@ -10,10 +10,9 @@ use Rattle.frac_math.proofs.FractionRing.{itself, change, common_add, mul_stands
 use Rattle.frac_math.proofs.FractionOrder.{cancel_le_ℤ, le_by_cross, cross_by_le, le_antisymm_ℚ, min_cases, max_cases}
 use Rattle.frac_math.proofs.Ring.{ring_from, var, ◌⊗◌, minus, by, done}
 use Rattle.frac_math.proofs.Integers.{ints_ring}
-use Rattle.op_list.specs.Apply.{at_most, at_least}
 use Rattle.kernel_int.specs.declared.form.Extent.{Extent}
 use Rattle.kernel_int.specs.Rules.{nearest}
-use Rattle.kernel_int.specs.ValueSteps.{IsIn, IsFactor, IsOver, IsScaled, IsMinimum, IsMaximum, IsDithered, IsAtMost, IsAtLeast}
+use Rattle.kernel_int.specs.ValueSteps.{IsIn, IsFactor, IsOver, IsMinimum, IsMaximum, IsDithered}
 
 -- ---- a factor
 pub factor_stands : (old : Extent) (c : ℚ) (k : ℤ) (new : Extent) (x : ℚ) (n : ℤ) → IsFactor old c k new

@@ -1,15 +1,13 @@
 -- Which operations make each whole number of one.
-use Rattle.std.proofs.Common.{◌≡◌, ℕ, ◌+◌, ◌*◌, ◌/◌, ◌%◌, ◌^◌, ◌<◌, ◌≤◌, ◌⊎◌, ⊎_elim, Bool, true, false, List, slice_index, refl, sym, ap}
-use Rattle.std.proofs.Common.{◌∙◌, arith, subst}
+use Rattle.std.proofs.Common.{◌≡◌, ℕ, ◌*◌, ◌/◌, ◌%◌, ◌^◌, ◌<◌, ◌⊎◌, ⊎_elim, Bool, true, false, slice_index, refl, sym}
+use Rattle.std.proofs.Common.{arith, subst}
 use Rattle.std.specs.Prelude.{if◌then◌else◌}
 use Rattle.std.proofs.lemmas.Nat.{pow_pos}
 use Rattle.std.proofs.Math.Nat.{mod-lt, div-le_self}
 use Rattle.op_list.specs.declared.types.PixType.{PixType}
 use Rattle.op_list.specs.declared.types.PixType.TheVariants.{U8, U16, U32, Rat}
 use Rattle.op_list.specs.declared.types.Stage.{Stage}
-use Rattle.op_list.specs.declared.types.Stage.TheVariants.{Typed}
 use Rattle.op_list.specs.declared.op.Op.TheVariants.{SwapBytes, LeftShift, RightShift, Convert}
-use Rattle.op_list.specs.declared.position.PixelPosition.{PixelPosition}
 use Rattle.op_list.specs.declared.values.Values.{Values}
 use Rattle.op_list.specs.declared.values.Values.TheVariants.{Numbers, Fractions}
 use Rattle.op_list.specs.Types.{bits, bits_at, is_whole, is_whole_type}
@@ -18,7 +16,7 @@ use Rattle.op_list.specs.Values.{number, are_fractions}
 use Rattle.op_list.specs.Whole.{reversed_bytes}
 use Rattle.op_list.specs.Apply.{apply, converted}
 use Rattle.op_list.proofs.Applied.{whole_before, wide_bits}
-use Rattle.op_list.proofs.ReversedBytes.{power_of_bytes, reversed_bytes-below}
+use Rattle.op_list.proofs.ReversedBytes.{reversed_bytes-below}
 use Rattle.kernel_int.proofs.Fours.{four_at}
 use Rattle.kernel_int.proofs.MappedSteps.{IsMap}
 

@@ -1,13 +1,13 @@
 -- What a block holds after some operations, and when the numbers that a kernel works with are those of an operation.
-use Rattle.std.specs.Prelude.{◌≡◌, ℕ, ◌+◌, ◌-◌, ◌*◌, ◌/◌, ◌^◌, ◌<◌, ◌≤◌, Bool, true, false, List, [], length, take, Option, Some, None, sum}
-use Rattle.std.specs.Prelude.{slice_index, slice_index_or, ℤ, pos, ◌≤ℤ◌, ◌<ℤ◌, ◌*ℤ◌, ◌⊎◌, unsigned_abs, FitsSigned}
+use Rattle.std.specs.Prelude.{◌≡◌, ℕ, ◌+◌, ◌-◌, ◌*◌, ◌^◌, ◌<◌, ◌≤◌, Bool, true, false, List, [], length, take, Option, Some, None, sum}
+use Rattle.std.specs.Prelude.{slice_index, slice_index_or, ℤ, pos, ◌≤ℤ◌, ◌*ℤ◌, ◌⊎◌, unsigned_abs, FitsSigned}
 use Rattle.std.specs.Int.{Width, w32, w64, w128}
 use Rattle.frac_math.specs.Standing.{Stands}
 use Rattle.frac_math.specs.Fraction.{ℚ}
 use Rattle.op_list.specs.declared.types.Stage.{Stage}
 use Rattle.op_list.specs.declared.types.Stage.TheVariants.{Start}
 use Rattle.op_list.specs.declared.types.PixType.{PixType}
-use Rattle.op_list.specs.declared.types.PixType.TheVariants.{U8, Rat}
+use Rattle.op_list.specs.declared.types.PixType.TheVariants.{U8}
 use Rattle.op_list.specs.declared.op.Op.{Op}
 use Rattle.op_list.specs.declared.op.Op.TheVariants.{Read, Write, SwapBytes, Unpack, Pack, Clear, LeftShift, RightShift, Swizzle}
 use Rattle.op_list.specs.declared.op.Op.TheVariants.{Convert, Dither, Linear, Scale, Min, Max}

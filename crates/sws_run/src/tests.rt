@@ -80,15 +80,7 @@ fn run_through<R: Threads + Sync, G: Gate>(
     let Ok(mut notes) = MemSink::new(alloc, 128, 1, fails(alloc, faults.note)?) else {
         return Err(AllocError);
     };
-    let ended = run_sws(
-        rt,
-        alloc,
-        &words,
-        &mut source,
-        &mut sink,
-        &mut notes,
-        gate,
-    );
+    let ended = run_sws(rt, alloc, &words, &mut source, &mut sink, &mut notes, gate);
     Ok(Outcome {
         ended,
         output: sink.bytes().to_vec(alloc)?,

@@ -1,4 +1,4 @@
-use Rattle.std.proofs.Common.{◌≡◌, ◌+◌, ◌*◌, ◌^◌, ◌<◌, ◌≤◌, sym, ◌∙◌, ap, arith, subst, slice_index}
+use Rattle.std.proofs.Common.{◌≡◌, ◌+◌, ◌*◌, ◌^◌, ◌≤◌, sym, ◌∙◌, ap, arith, subst, slice_index}
 use Rattle.op_list.specs.Types.{bytes}
 use Rattle.op_list.specs.Values.{no_values}
 use Rattle.op_list.specs.Pixel.{palette_colours, pixel_count, pixel_number}

@@ -1,4 +1,4 @@
-use Rattle.std.proofs.Common.{◌≡◌, ◌<◌, ◌≤◌, ◌+◌, ◌*◌, ◌^◌, ap, ◌∙◌, arith, inl, inr, sym, subst, slice_index_or, below_more}
+use Rattle.std.proofs.Common.{◌≡◌, ◌<◌, ◌+◌, ◌*◌, ◌^◌, ap, ◌∙◌, arith, inl, inr, sym, subst, slice_index_or, below_more}
 use Rattle.std.specs.Prelude.{IfSome, None, unsigned_abs}
 use Rattle.std.proofs.lemmas.List.{get_or_default}
 use Rattle.op_list.specs.Values.{entry}

@@ -1,4 +1,4 @@
-use Rattle.std.proofs.Common.{◌≡◌, ◌+◌, ◌*◌, arith, slice_index_or}
+use Rattle.std.proofs.Common.{◌≡◌, ◌+◌, arith, slice_index_or}
 use Rattle.std.proofs.lemmas.List.{get_or_default}
 use Rattle.kernel_int.proofs.dither.add_sixteen.Goals as goal
 

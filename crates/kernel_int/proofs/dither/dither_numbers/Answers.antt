@@ -1,4 +1,4 @@
-use Rattle.std.proofs.Common.{◌<◌, arith}
+use Rattle.std.proofs.Common.{arith}
 use Rattle.kernel_int.proofs.DitherSteps.{halves_are_dithers, row_numbers}
 use Rattle.kernel_int.proofs.dither.dither_numbers.Goals as goal
 

@@ -1,14 +1,13 @@
-use Rattle.std.proofs.Common.{◌≡◌, ◌≤◌, ◌<◌, ◌+◌, ◌-◌, ◌^◌, [], ◌∷◌, ◌++◌, length, length-append, refl, sym, ap, ◌∙◌, arith, subst}
+use Rattle.std.proofs.Common.{◌≡◌, ◌<◌, ◌+◌, ◌-◌, [], ◌∷◌, ◌++◌, length, length-append, refl, sym, ap, ◌∙◌, arith, subst}
 use Rattle.std.specs.Int.{w128}
 use Rattle.std.proofs.lemmas.List.{get_or_default}
 use Rattle.std.proofs.lemmas.Slice.{pushed}
 use Rattle.op_list.specs.declared.op.Op.TheVariants.{SwapBytes}
 use Rattle.op_list.specs.declared.types.Stage.TheVariants.{Start}
-use Rattle.op_list.specs.Types.{bits_at, is_typed}
-use Rattle.op_list.specs.Typing.{are_good, is_write, may_follow, stage_after}
+use Rattle.op_list.specs.Typing.{stage_after}
 use Rattle.op_range.specs.Width.{width_after, whole_width}
 use Rattle.kernel_int.specs.Forms.{IsStep, form_at, no_form, op_at, stage_before, bits_of}
-use Rattle.kernel_int.specs.Joint.{AreSame, IsJoint, IsSmall, IsWalked}
+use Rattle.kernel_int.specs.Joint.{AreSame, IsJoint, IsSmall}
 use Rattle.kernel_int.proofs.Kernels.{first_stage, first_good, follows_at, good_at, stage_more, stage_zero}
 use Rattle.kernel_int.proofs.Compiled.{few_more, steps_more, few_none}
 use Rattle.kernel_int.proofs.CompiledWalks.{typed_before, no_write, joint_first, joint_more}

@@ -1,4 +1,4 @@
-use Rattle.std.proofs.Common.{◌≡◌, to_z, of_z, FitsSigned, rules, ◌∙◌}
+use Rattle.std.proofs.Common.{◌≡◌, to_z, of_z, FitsSigned, rules}
 use Rattle.std.specs.Int.{w128}
 use Rattle.kernel_int.specs.Forms.{width_of}
 use Rattle.kernel_int.proofs.Intervals.{plain, number_width_plain, wide_fits}

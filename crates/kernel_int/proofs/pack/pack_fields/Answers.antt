@@ -1,4 +1,4 @@
-use Rattle.std.proofs.Common.{◌≡◌, ◌≢◌, ◌+◌, ◌<◌, ◌≤◌, ap, ◌∙◌, arith, length, slice_index_or, slice_set, get_or-set_other, get_or-set_same}
+use Rattle.std.proofs.Common.{◌≡◌, ◌≢◌, ◌+◌, ◌<◌, ap, ◌∙◌, arith, length, slice_index_or, slice_set, get_or-set_other, get_or-set_same}
 use Rattle.std.proofs.Common.{below_more}
 use Rattle.op_list.specs.Whole.{placed}
 use Rattle.kernel_int.proofs.FieldSteps.{same_fields}

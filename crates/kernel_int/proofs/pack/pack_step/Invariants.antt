@@ -1,4 +1,4 @@
-use Rattle.std.proofs.Common.{◌≡◌, ℕ, ◌+◌, ◌*◌, ◌<◌, ◌≤◌, slice_index_or}
+use Rattle.std.proofs.Common.{◌≡◌, ℕ, ◌+◌, ◌*◌, ◌<◌, slice_index_or}
 use Rattle.kernel_int.proofs.pack.pack_step.Given as goal
 
 abbrev pub invariant-loop-v : goal.invariant-loop-v

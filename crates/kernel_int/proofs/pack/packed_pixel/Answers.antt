@@ -1,4 +1,4 @@
-use Rattle.std.proofs.Common.{◌≡◌, ◌+◌, ap, ◌∙◌, arith, length, slice_index_or}
+use Rattle.std.proofs.Common.{◌≡◌, ◌+◌, ap, ◌∙◌, arith, slice_index_or}
 use Rattle.std.proofs.lemmas.List.{get_or_default}
 use Rattle.kernel_int.proofs.FieldSteps.{packed_small, same_fields}
 use Rattle.kernel_int.proofs.pack.packed_pixel.Goals as goal

@@ -1,4 +1,4 @@
-use Rattle.std.proofs.Common.{◌≡◌, ◌<◌, ◌+◌, ◌*◌, ◌^◌, ap, ◌∙◌, arith}
+use Rattle.std.proofs.Common.{◌+◌, ◌^◌, ap, ◌∙◌, arith}
 use Rattle.kernel_int.specs.Block.{colour_byte, colour_in}
 use Rattle.kernel_int.proofs.Palettes.{below_next, hold_next}
 use Rattle.kernel_int.proofs.palette.read_palette.Goals as goal

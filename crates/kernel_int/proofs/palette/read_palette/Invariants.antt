@@ -1,4 +1,4 @@
-use Rattle.std.proofs.Common.{◌≡◌, ℕ, ◌+◌, ◌^◌}
+use Rattle.std.proofs.Common.{◌+◌, ◌^◌}
 use Rattle.kernel_int.specs.Block.{Holds, AreBelow, colour_byte, colour_in}
 use Rattle.kernel_int.proofs.palette.read_palette.Given as goal
 

@@ -1,4 +1,4 @@
-use Rattle.std.proofs.Common.{◌≡◌, ℕ, ◌+◌, ◌*◌, ◌^◌, ◌<◌, ◌≤◌, ◌⊎◌, inl, inr, ⊎_elim, ap, sym, subst, ◌∙◌, arith, below_more, slice_index_or}
+use Rattle.std.proofs.Common.{◌≡◌, ◌+◌, ◌*◌, ◌^◌, ◌<◌, ◌≤◌, ◌⊎◌, inl, inr, ⊎_elim, ap, sym, subst, ◌∙◌, arith, below_more, slice_index_or}
 use Rattle.op_list.specs.Types.{bits, bytes}
 use Rattle.op_list.specs.Pixel.{element}
 use Rattle.kernel_int.proofs.Positions.{element_small}

@@ -1,11 +1,8 @@
-use Rattle.std.proofs.Common.{◌*◌, ◌/◌, ◌%◌, ◌^◌, ◌∙◌, ap, sym, arith}
-use Rattle.std.specs.Prelude.{if◌then◌else◌}
-use Rattle.op_list.specs.declared.op.Op.TheVariants.{SwapBytes, LeftShift, RightShift, Convert}
-use Rattle.op_list.specs.Types.{bits, bits_at}
-use Rattle.op_list.specs.Whole.{reversed_bytes}
+use Rattle.std.proofs.Common.{◌/◌, ◌^◌}
+use Rattle.op_list.specs.declared.op.Op.TheVariants.{RightShift}
 use Rattle.op_list.proofs.Applied.{right_shift}
 use Rattle.kernel_int.proofs.MappedSteps.{mapped_fits, mapped_bounded, mapped_performs}
-use Rattle.kernel_int.proofs.WholeSteps.{swap_bits, swap_map, left_map, right_map, retype_map}
+use Rattle.kernel_int.proofs.WholeSteps.{right_map}
 use Rattle.kernel_int.proofs.right_shift.right_shift_step.Goals as goal
 
 pub map_values-requires-clause-stands : goal.map_values-requires-clause-stands

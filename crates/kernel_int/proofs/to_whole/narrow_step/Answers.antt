@@ -1,4 +1,4 @@
-use Rattle.std.proofs.Common.{◌+◌, ◌*◌, ◌<◌, ap, inl, ◌∙◌, arith, below_more}
+use Rattle.std.proofs.Common.{◌+◌, ◌*◌, ap, inl, ◌∙◌, arith, below_more}
 use Rattle.op_list.specs.Types.{bits}
 use Rattle.kernel_int.specs.Forms.{denominator}
 use Rattle.kernel_int.specs.ValueSteps.{AreFloors}

@@ -1,4 +1,4 @@
-use Rattle.std.proofs.Common.{◌≡◌, ◌<◌, ◌≤◌, ◌/◌, ◌%◌, ◌^◌, ap, sym, ◌∙◌, arith, slice_index, slice_index_or}
+use Rattle.std.proofs.Common.{◌<◌, ◌/◌, ◌%◌, ◌^◌, ap, ◌∙◌, arith, slice_index, slice_index_or}
 use Rattle.op_list.specs.Whole.{bits_below}
 use Rattle.op_list.proofs.Applied.{unpack_widths}
 use Rattle.kernel_int.proofs.FieldSteps.{Unpacks, width_most, below_most, copied_first, unpack_fits, unpack_bounded, unpack_performs}

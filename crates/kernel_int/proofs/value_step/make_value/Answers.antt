@@ -1,5 +1,3 @@
-use Rattle.std.proofs.Common.{subst, ◌≡◌, true}
-use Rattle.op_list.specs.Typing.{are_good}
 use Rattle.kernel_int.proofs.ValueBlocks.{dither_small}
 use Rattle.kernel_int.proofs.value_step.make_value.Goals as goal
 

@@ -1,4 +1,4 @@
-use Rattle.std.proofs.Common.{◌+◌, ◌*◌, ◌<◌, ◌∙◌, inl, inr, refl, sym, arith, below_more}
+use Rattle.std.proofs.Common.{◌+◌, ◌*◌, ◌∙◌, inl, inr, refl, sym, arith, below_more}
 use Rattle.kernel_int.specs.Block.{pixel_at}
 use Rattle.kernel_int.specs.Forms.{extent_at}
 use Rattle.kernel_int.specs.ValueSteps.{MakesValue, makes}

@@ -1,4 +1,4 @@
-use Rattle.std.proofs.Common.{◌≡◌, ℕ, ◌+◌, ◌*◌, ◌<◌, ◌≤◌, length, slice_index_or}
+use Rattle.std.proofs.Common.{◌≡◌, ℕ, ◌*◌, ◌<◌, ◌≤◌, slice_index_or}
 use Rattle.kernel_int.specs.Block.{pixel_at}
 use Rattle.kernel_int.specs.Forms.{extent_at}
 use Rattle.kernel_int.specs.ValueSteps.{MakesValue, makes}

@@ -1,4 +1,4 @@
-use Rattle.std.proofs.Common.{◌≡◌, ℕ, ◌+◌, ◌*◌, ◌<◌, ap, sym, ◌∙◌, arith, slice_index, slice_index_or}
+use Rattle.std.proofs.Common.{◌≡◌, ℕ, ◌+◌, ◌*◌, ap, sym, ◌∙◌, arith, slice_index, slice_index_or}
 use Rattle.std.proofs.lemmas.List.{get_or_past}
 use Rattle.kernel_int.proofs.PlaneRows.{by_four, same_four, other_outside}
 use Rattle.kernel_int.proofs.write.write_block.Goals as goal

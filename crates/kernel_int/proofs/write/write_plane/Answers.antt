@@ -1,4 +1,4 @@
-use Rattle.std.proofs.Common.{◌≡◌, ℕ, ◌+◌, ◌*◌, ◌<◌, ◌≤◌, ap, sym, ◌∙◌, arith, below_more, slice_index_or}
+use Rattle.std.proofs.Common.{◌≡◌, ◌+◌, ◌*◌, ◌<◌, ap, sym, ◌∙◌, arith, below_more, slice_index_or}
 use Rattle.op_list.specs.Types.{bytes}
 use Rattle.op_list.specs.Pixel.{element}
 use Rattle.kernel_int.proofs.PlaneRows.{lane_end, lane_place, lane_apart, pixel_apart}

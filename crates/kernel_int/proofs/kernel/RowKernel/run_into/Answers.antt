@@ -1,4 +1,4 @@
-use Rattle.std.proofs.Common.{◌≡◌, ◌*◌, ◌+◌, ◌<◌, ◌++◌, ◌∙◌, sym, ap, arith, slice_index}
+use Rattle.std.proofs.Common.{◌≡◌, ◌++◌, ◌∙◌, ap, arith, slice_index}
 use Rattle.op_list.specs.Pixel.{element_of}
 use Rattle.kernel_int.specs.Forms.{last_op, planes_of, elem_of}
 use Rattle.kernel_int.specs.Planes.{row_length}

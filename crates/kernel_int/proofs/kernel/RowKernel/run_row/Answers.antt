@@ -1,9 +1,8 @@
-use Rattle.std.proofs.Common.{rules, ◌≡◌, ◌*◌, ◌+◌, ◌<◌, ◌≤◌, true, length, sym, ap, ◌∙◌, arith, slice_index}
+use Rattle.std.proofs.Common.{rules, ◌≡◌, ◌≤◌, true, length, sym, ◌∙◌, arith}
 use Rattle.op_list.specs.declared.types.Stage.TheVariants.{Start}
-use Rattle.op_list.specs.Typing.{are_good, are_typed, ends_with_write}
-use Rattle.op_list.specs.Pixel.{frame_length}
+use Rattle.op_list.specs.Typing.{are_typed, ends_with_write}
 use Rattle.kernel_int.specs.Forms.{last_op, op_at}
-use Rattle.kernel_int.specs.Planes.{palette_length, row_frame, row_length, rows_of}
+use Rattle.kernel_int.specs.Planes.{row_frame, rows_of}
 use Rattle.kernel_int.proofs.CutRows.{cut_total, write_has_planes, write_palette}
 use Rattle.kernel_int.proofs.Kernels.{at_least_two, last_counts, last_good, last_writes, read_length_first}
 use Rattle.kernel_int.proofs.RunRows.{run_same}
