@@ -1,5 +1,6 @@
 -- A row that is cut out of the planes of a frame.
-use Rattle.std.proofs.Common.{◌≡◌, ℕ, zero, suc, ◌+◌, ◌-◌, ◌*◌, ◌<◌, ◌≤◌, ⊎_elim, true, false, Bool, List, [], ◌∷◌, ◌++◌, length, take, drop}
+use Rattle.std.proofs.Common.{◌≡◌, ℕ, zero, suc, ◌+◌, ◌-◌, ◌*◌, ◌<◌, ◌≤◌, ⊎_elim, true, false, Bool, List, [], ◌∷◌, ◌++◌, length, take}
+use Rattle.std.proofs.Common.{drop}
 use Rattle.std.proofs.Common.{slice_index, refl, sym, ap, ◌∙◌, arith}
 use Rattle.std.specs.Prelude.{sum}
 use Rattle.std.proofs.lemmas.Bool.{cases_lt}
@@ -291,7 +292,8 @@ cut_same (Read elem planes palette) width rows row x y sizes f g h i behind a b 
     cut_at : (p : ℕ) (part : List ℕ) {e : List ℕ} → p < 4 → e ≡ take (slice_index sizes p) (drop (row * slice_index sizes p) part)
         → e ≡ take (row_length (Read elem planes palette) width p) (drop (row * row_length (Read elem planes palette) width p) part)
     cut_at p part below is = is ∙ ap (λ t. take t (drop (row * t) part)) (are p below)
-cut_same op width rows row x y sizes f g h i behind a b c d follows good are size inside column second third fourth last first_row second_row
+cut_same op width rows row x y sizes f g h i behind a b c d follows good are size inside column second third fourth last first_row
+    second_row
     third_row fourth_row cut = cc
 
 pub write_has_planes : (op : Op) → is_write op ≡ true → has_planes op ≡ true

@@ -133,7 +133,8 @@ none_behind [] p h = refl
 none_behind (zero ∷ ns) zero h = refl
 none_behind (zero ∷ ns) (suc p) h = none_behind ns p (and_parts true (list_all (λ n. nat_eq n 0) ns) h).1
 none_behind (suc n ∷ ns) p h =
-    let same : suc n ≡ 0 = eqb-true (suc n) 0 (and_parts (nat_eq (suc n) 0) (list_all (λ n. nat_eq n 0) ns) h).0 in absurd (omega (arith, same))
+    let same : suc n ≡ 0 = eqb-true (suc n) 0 (and_parts (nat_eq (suc n) 0) (list_all (λ n. nat_eq n 0) ns) h).0
+    in absurd (omega (arith, same))
 
 in_front_below : (ns : List ℕ) (p : ℕ) → are_in_front ns ≡ true → 0 < slice_index ns p → p < sum ns
 in_front_below [] p h some = absurd (omega (arith, some))

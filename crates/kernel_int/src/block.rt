@@ -1,5 +1,6 @@
 // A list of operations on a block of pixels.
-ghost use Rattle.std.specs.Prelude.{◌≡◌, ℕ, ◌+◌, ◌*◌, ◌-◌, ◌^◌, ◌<◌, ◌≤◌, ◌⊎◌, true, false, length, sum};
+ghost use Rattle.std.specs.Prelude.{◌≡◌, ℕ, ◌+◌, ◌*◌, ◌-◌, ◌^◌, ◌<◌, ◌≤◌, ◌⊎◌, true, false, length};
+ghost use Rattle.std.specs.Prelude.{sum};
 ghost use Rattle.std.specs.Prelude.{slice_index_or, List};
 ghost use Rattle.op_list.specs.Types.{bits, bits_at};
 ghost use Rattle.op_list.specs.Typing.{may_follow, are_good, stage_after, is_write};
@@ -10,7 +11,8 @@ ghost use Rattle.op_list.specs.Run.{run_from};
 ghost use Rattle.kernel_int.specs.Block.{pixel_at, Holds, AreBelow, IsInRow};
 ghost use Rattle.kernel_int.specs.Forms.{IsKernel, IsState, IsBounded, form_at, stage_before};
 ghost use Rattle.kernel_int.specs.Forms.{op_at, values_before, last_op, planes_of, elem_of};
-ghost use Rattle.kernel_int.specs.Planes.{AreRows, palette_length, row_element, row_frame, row_list};
+ghost use Rattle.kernel_int.specs.Planes.{AreRows, palette_length, row_element, row_frame};
+ghost use Rattle.kernel_int.specs.Planes.{row_list};
 ghost use Rattle.kernel_int.specs.Planes.{rows_of};
 
 use crate::form::Form;

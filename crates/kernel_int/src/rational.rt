@@ -1,5 +1,6 @@
 // The numerators of a block.
-ghost use Rattle.std.specs.Prelude.{◌≡◌, ℕ, ℤ, pos, true, false, ◌+◌, ◌*◌, ◌^◌, ◌<◌, ◌≤◌, ◌⊎◌, ◌+ℤ◌};
+ghost use Rattle.std.specs.Prelude.{◌≡◌, ℕ, ℤ, pos, true, false, ◌+◌, ◌*◌, ◌^◌, ◌<◌, ◌≤◌, ◌⊎◌};
+ghost use Rattle.std.specs.Prelude.{◌+ℤ◌};
 ghost use Rattle.std.specs.Prelude.{◌*ℤ◌, ◌-ℤ◌, ◌≤ℤ◌, ◌<ℤ◌, length, slice_index_or, FitsSigned};
 ghost use Rattle.kernel_int.specs.Forms.{AreWithin, extent_at};
 ghost use Rattle.kernel_int.specs.Rules.{with_product, row_sum, lane_numbers, RowFits};

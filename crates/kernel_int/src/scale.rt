@@ -1,5 +1,6 @@
 // Values times a factor of their own.
-ghost use Rattle.std.specs.Prelude.{◌≡◌, ℕ, ◌+◌, ◌*◌, ◌^◌, ◌<◌, ◌≤◌, ◌⊎◌, pos, ◌*ℤ◌, ◌<ℤ◌, true, length};
+ghost use Rattle.std.specs.Prelude.{◌≡◌, ℕ, ◌+◌, ◌*◌, ◌^◌, ◌<◌, ◌≤◌, ◌⊎◌, pos, ◌*ℤ◌, ◌<ℤ◌, true};
+ghost use Rattle.std.specs.Prelude.{length};
 ghost use Rattle.std.specs.Prelude.{◌≤ℤ◌, slice_index_or, unsigned_abs, FitsSigned, IfSome};
 ghost use Rattle.frac_math.specs.Fraction.{◌*ℚ◌, nat};
 ghost use Rattle.kernel_int.specs.declared.form.Extent.{Extent};
@@ -115,7 +116,8 @@ pub fn numerator<N: Numerator>(factors: &[i128; 5], j: usize) -> N
     N::of(factors[j])
 }
 
-/// Value v of each pixel, whose numbers lie in an extent, times the first factor, which is mostly 1.
+/// Value v of each pixel, whose numbers lie in an extent, times the first factor, which is mostly
+/// 1.
 pub fn scale<N: Numerator>(numbers: &mut [N], v: usize, old: &Extent, factors: &[i128; 5])
     requires block { (v < 4) × (length numbers.old ≡ 256) }
     requires old { AreIn N.value numbers.old v old.now }

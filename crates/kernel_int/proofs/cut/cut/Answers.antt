@@ -43,7 +43,8 @@ returns-clause-rows c =
     let total = cut_total c.args.op.now c.args.width rows c.row_lengths.result c.args.frame.now
     (read_has_planes c.args.op.now c.requires.follows) c.requires.good c.row_lengths.ensures c.requires.frame in
     let rooms = cut_rooms rows (palette_length c.args.op.now) c.row_lengths.result c.args.frame.now c.cut_row.result.1.now
-    c.cut_row-2.result.1.now c.cut_row-3.result.1.now total c.cut_row.ensures.behind c.cut_row-2.ensures.behind c.cut_row-3.ensures.behind in
+    c.cut_row-2.result.1.now c.cut_row-3.result.1.now total c.cut_row.ensures.behind c.cut_row-2.ensures.behind
+    c.cut_row-3.ensures.behind in
     four_sizes c.cut_row.result.0.now c.cut_row-2.result.0.now c.cut_row-3.result.0.now c.cut_row-4.result.0.now
     (row_length c.args.op.now c.args.width)
     (ap length c.cut_row.ensures.row ∙ row_size c.args.frame.now rows row _ c.requires.row rooms.0 ∙ c.row_lengths.ensures 0 (omega arith))

@@ -6,7 +6,8 @@ use Rattle.kernel_int.proofs.write.write_plane.Goals as goal
 
 pub write_value-requires-clause-room : goal.write_value-requires-clause-room
 write_value-requires-clause-room g c =
-    λ i below. lane_end c.args.x i c.args.n c.args.count c.loop-e.e (bytes c.args.elem) _ (omega arith) below (omega (arith, c.requires.room))
+    λ i below. lane_end c.args.x i c.args.n c.args.count c.loop-e.e (bytes c.args.elem) _ (omega arith) below
+    (omega (arith, c.requires.room))
 
 pub loop-e-preserved : goal.loop-e-preserved
 loop-e-preserved g c =
