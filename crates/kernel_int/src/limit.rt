@@ -92,7 +92,13 @@ pub fn hold_above<N: Numerator>(
         → slice_index_or numbers.new j d ≡ slice_index_or numbers.old j d }
 {
     scale(numbers, v, old, factors);
-    change_part::<N, AtLeast<N>, 64>(AtLeast { least: least_of(new) }, numbers, 64 * v);
+    change_part::<N, AtLeast<N>, 64>(
+        AtLeast {
+            least: least_of(new),
+        },
+        numbers,
+        64 * v,
+    );
 }
 
 /// Value v of each pixel times the first factor, but at most the greatest number of an extent. None
@@ -122,7 +128,13 @@ pub fn hold_below<N: Numerator>(
         → slice_index_or numbers.new j d ≡ slice_index_or numbers.old j d }
 {
     scale(numbers, v, old, factors);
-    change_part::<N, AtMost<N>, 64>(AtMost { greatest: greatest_of(new) }, numbers, 64 * v);
+    change_part::<N, AtMost<N>, 64>(
+        AtMost {
+            greatest: greatest_of(new),
+        },
+        numbers,
+        64 * v,
+    );
 }
 
 /// An extent over a denominator that makes a limit whole: the factor that leads to it, and the

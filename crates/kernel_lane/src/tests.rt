@@ -214,6 +214,7 @@ impl Merge<u16, u32> for Remainder {
 }
 
 const PLACE: usize = 33;
+
 const START: usize = 7;
 
 // The parts of N elements: the elements in front of them and behind them stay.
