@@ -5,8 +5,10 @@
     bench/workers.py PROGRAM --board [--runs K]
     bench/workers.py PROGRAM --memory
 
-The first form converts the same rgb24 frames to yuv444p with one worker and with four, in turn, and prints the
-frames a second of each and their ratio; of K runs the fastest of each counts. The second shows what a board costs a
+The first form converts the same rgb24 frames to yuv444p with one worker, with four, and by four programs of one worker
+beside each other, in turn; it prints the frames a second of each, and by how much the second and the third are more
+than the first: what four programs give is what the processors have to give at the time. Of K runs the fastest of each
+counts. The second shows what a board costs a
 frame: the frames a second of rgb24 to bgr24, small and large, as one slice (which costs no thread) and in eight
 slices, each with one worker (which costs none either) and with four. The third prints the peak memory of one
 8192x4096 frame of rgb24 to bgr24 with 64 workers, in slices of one row and of 16384. The processors have to be free.
@@ -20,14 +22,19 @@ import tempfile
 import time
 
 
-def convert(program, source, target, width, height, workers, slice_height):
-    """Seconds that the conversion of a file of rgb24 frames takes."""
+def convert(program, source, target, width, height, workers, slice_height, programs=1):
+    """Seconds that the conversion of a file of rgb24 frames takes, where so many programs do it beside each other."""
     words = [program, "--in", "rgb24", "--out", target, "--size", "%dx%d" % (width, height)]
     words += ["--workers", str(workers), "--slice", str(slice_height)]
-    with open(source, "rb") as frames:
-        start = time.monotonic()
-        subprocess.run(words, stdin=frames, stdout=subprocess.DEVNULL, check=True)
-        return time.monotonic() - start
+    start = time.monotonic()
+    running = []
+    for _ in range(programs):
+        with open(source, "rb") as frames:
+            running.append(subprocess.Popen(words, stdin=frames, stdout=subprocess.DEVNULL))
+    for one in running:
+        if one.wait() != 0:
+            sys.exit("a conversion failed")
+    return time.monotonic() - start
 
 
 def write_frames(path, width, height, frames):
@@ -42,14 +49,16 @@ def write_frames(path, width, height, frames):
 def speed(program, source, width, height, frames, runs):
     write_frames(source, width, height, frames)
     slice_height = max(1, height // 64)
-    best = {1: None, 4: None}
+    best = {}
     for _ in range(runs):
-        for workers in best:
-            seconds = convert(program, source, "yuv444p", width, height, workers, slice_height)
-            best[workers] = seconds if best[workers] is None else min(best[workers], seconds)
-    for workers, seconds in best.items():
-        print("%d workers: %.3f frames a second" % (workers, frames / seconds))
-    print("ratio %.2f on %d processors" % (best[1] / best[4], os.cpu_count()))
+        for workers, programs in ((1, 1), (4, 1), (1, 4)):
+            seconds = convert(program, source, "yuv444p", width, height, workers, slice_height, programs)
+            best[workers, programs] = min(seconds, best.get((workers, programs), seconds))
+    for (workers, programs), seconds in best.items():
+        rate = programs * frames / seconds
+        ratio = programs * best[1, 1] / seconds
+        print("%d x %d workers: %8.1f frames a second, %.2f times" % (programs, workers, rate, ratio), flush=True)
+    print("on %d processors" % os.cpu_count())
 
 
 def board(program, source, runs):
@@ -85,8 +94,8 @@ def memory(program, source):
 def main():
     parser = argparse.ArgumentParser(description=__doc__, formatter_class=argparse.RawDescriptionHelpFormatter)
     parser.add_argument("program")
-    parser.add_argument("--frames", type=int, default=2)
-    parser.add_argument("--size", default="640x480")
+    parser.add_argument("--frames", type=int, default=30)
+    parser.add_argument("--size", default="1920x1080")
     parser.add_argument("--runs", type=int, default=3)
     parser.add_argument("--board", action="store_true")
     parser.add_argument("--memory", action="store_true")
