@@ -75,6 +75,7 @@ struct sws_plan {
 uint32_t sws_format_count(void);
 uint32_t sws_format_find(const uint8_t *name, size_t name_length, uint32_t *format);
 uint32_t sws_format_name(uint32_t format, uint8_t *room, size_t room_length);
+uint32_t sws_format_range(uint32_t format, uint32_t *range);
 uint32_t sws_matrix(const uint8_t *name, size_t name_length, uint32_t *q, uint32_t *r, uint32_t *b);
 uint32_t sws_frame_bytes(uint32_t format, uint32_t width, uint32_t rows, uint64_t *bytes);
 uint32_t sws_check(const struct sws_conversion *conversion);
@@ -112,6 +113,15 @@ static inline uint32_t sws_bytes(uint32_t format, uint32_t width, uint32_t rows,
     return sws_frame_bytes(format, width, rows, bytes);
 }
 
+/* The range that a format is taken to have where nothing else is said: SWS_LIMITED for a format of luma and chroma other than
+ * yuvj444p, SWS_FULL for any other. SWS_FORMAT, SWS_NULL. */
+static inline uint32_t sws_default_range(uint32_t format, uint32_t *range)
+{
+    if (!range)
+        return SWS_NULL;
+    return sws_format_range(format, range);
+}
+
 /* Sets the matrix of a side: "bt601", "bt709", "bt2020", "smpte240m" or "fcc". SWS_UNKNOWN_NAME, SWS_NULL. */
 static inline uint32_t sws_set_matrix(struct sws_side *side, const char *name)
 {
@@ -120,7 +130,8 @@ static inline uint32_t sws_set_matrix(struct sws_side *side, const char *name)
     return sws_matrix((const uint8_t *)name, strlen(name), &side->q, &side->r, &side->b);
 }
 
-/* Makes a conversion of two names, with bt601 on both sides, full ranges and no dither: set its fields after it. */
+/* Makes a conversion of two names, with bt601 and sws_default_range on both sides, and no dither: set its fields after it.
+ * SWS_PALETTE_TARGET, SWS_UNKNOWN_NAME to SWS_UNSUPPORTED, SWS_NULL. */
 static inline uint32_t sws_open(struct sws_conversion *conversion, const char *from, const char *to)
 {
     struct sws_conversion made;
@@ -130,7 +141,8 @@ static inline uint32_t sws_open(struct sws_conversion *conversion, const char *f
     memset(&made, 0, sizeof made);
     if ((status = sws_find(from, &made.from.format)) || (status = sws_find(to, &made.to.format)) ||
         (status = sws_set_matrix(&made.from, "bt601")) || (status = sws_set_matrix(&made.to, "bt601")) ||
-        (status = sws_check(&made)))
+        (status = sws_default_range(made.from.format, &made.from.range)) ||
+        (status = sws_default_range(made.to.format, &made.to.range)) || (status = sws_check(&made)))
         return status;
     *conversion = made;
     return SWS_OK;

@@ -63,6 +63,38 @@ static void test_names(void)
     free(name);
 }
 
+/* by its name: only those of formats with chroma have a v or begin with p4 */
+static uint32_t wanted_range(const char *name)
+{
+    int has_chroma = strchr(name, 'v') || !strncmp(name, "p4", 2);
+    return has_chroma && strcmp(name, "yuvj444p") ? SWS_LIMITED : SWS_FULL;
+}
+
+/* the range of each format, and that a conversion begins with it */
+static void test_ranges(void)
+{
+    for (uint32_t number = 0; number < formats; number++) {
+        struct sws_conversion conversion;
+        uint32_t range = 77, yuv444p;
+        char name[16];
+        MUST(sws_name(number, name, sizeof name) == SWS_OK && sws_default_range(number, &range) == SWS_OK);
+        MUST(range == wanted_range(name));
+        MUST(sws_default_range(number, NULL) == SWS_NULL && sws_find("yuv444p", &yuv444p) == SWS_OK);
+        MUST(sws_open(&conversion, name, "yuv444p") == SWS_OK);
+        MUST(conversion.from.range == range && conversion.to.range == SWS_LIMITED);
+        MUST(conversion.from.format == number && conversion.to.format == yuv444p);
+        MUST(sws_open(&conversion, "yuv444p", name) == (number == pal8 ? SWS_PALETTE_TARGET : SWS_OK));
+        MUST(number == pal8 || conversion.to.range == range);
+    }
+}
+
+/* a number that is no format changes nothing */
+static void test_no_range(void)
+{
+    uint32_t range = 77, number = below(2) ? formats + below(3) : below(0);
+    MUST(number < formats || (sws_default_range(number, &range) == SWS_FORMAT && range == 77));
+}
+
 static void any_side(struct sws_side *side)
 {
     side->format = below(40) ? below(formats) : below(3) ? formats + below(3) : below(0);
@@ -217,10 +249,12 @@ int main(int argc, char **argv)
     state = 88172645463325252u + (argc > 2 ? strtoul(argv[2], NULL, 10) : 0) * 1000003u;
     formats = sws_format_count();
     MUST(sws_find("pal8", &pal8) == SWS_OK && sws_version() == SWS_VERSION);
+    test_ranges();
     for (call = 0; call < calls; call++) {
         struct asked asked;
         memset(&asked, 0, sizeof asked);
         test_names();
+        test_no_range();
         any_call(&asked);
         test_pointers(&asked);
         test_plan(&asked, test_convert(&asked));
