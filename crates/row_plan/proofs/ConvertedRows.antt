@@ -35,7 +35,7 @@ pub are_bytes : (frame : List ℕ) → ((k : ℕ) → slice_index frame k < 256)
 are_bytes frame small = All-from_get_or (λ byte. byte < 256) frame 0 (λ k within. small k)
 
 -- ---- the normal list
-is_normal : (pair : Pair) → IsValidPair pair → IsNormalOf (recipe pair) (normal (recipe pair))
+pub is_normal : (pair : Pair) → IsValidPair pair → IsNormalOf (recipe pair) (normal (recipe pair))
 is_normal pair valid = normal_reached (recipe pair) (recipe_is_list pair valid) (is_whole pair)
 
 length_of_first : (ops : List Op) (width rows : ℕ) → read_length ops width rows ≡ op_length (slice_index_or ops 0 SwapBytes) width rows

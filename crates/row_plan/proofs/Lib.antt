@@ -9,6 +9,7 @@ pub mod PeakClasses
 pub mod PeakPairs
 pub mod RowSteps
 pub mod ConvertedRows
+pub mod PlaneRows
 pub mod SlicePlanes
 pub mod SliceBytes
 pub mod SliceTargets

@@ -1,8 +1,9 @@
 //! Plans: what is made once for a conversion, and converts slices of rows.
 //!
 //! A plan knows its pair and no size of a frame. `Plan::convert_rows` converts the rows of a slice,
-//! whose first row in the whole frame decides the dither. `specs/Evaluated` says which pairs have a
-//! plan, and `specs/Slices` that a frame is its slices.
+//! whose first row in the whole frame decides the dither, and `Plan::convert_planes` a row that
+//! stands in the rows of its planes. `specs/Evaluated` says which pairs have a plan, and
+//! `specs/Slices` that a frame is its slices.
 #![tactic(auto)]
 
 mod job;
@@ -10,6 +11,9 @@ mod job;
 mod kernel_tests;
 pub mod laws;
 mod making;
+#[cfg(test)]
+mod plane_tests;
+mod planes;
 mod plans;
 mod rows;
 mod slice;
@@ -17,5 +21,6 @@ mod slice;
 mod tests;
 
 pub use job::SliceJob;
+pub use kernel_int::Planes;
 pub use making::plan;
 pub use plans::Plan;
