@@ -122,16 +122,16 @@ one_more pair rows source source_strides strides first old new r before put fit 
     record {
       lengths = λ p plane. (each old new strides sizes r put p plane).same ∙ before.lengths p plane;
       targets = λ k below. ⊎_elim
-      (λ (less : k < r). same_rows (kept 0 k (omega arith) less) (kept 1 k (omega arith) less) (kept 2 k (omega arith) less)
-      (kept 3 k (omega arith) less) ∙ before.targets k less)
-      (λ (most : r ≤ k). subst (λ n. target_row pair.to.desc rows.width new strides n
-      ≡ target_rows pair rows.width 1 (rows.first + n) (source_row pair.from.desc rows.width source source_strides n))
-      {x = r} {y = k} (omega (arith, below, most)) row)
-      (cases_lt k r);
+          (λ (less : k < r). same_rows (kept 0 k (omega arith) less) (kept 1 k (omega arith) less) (kept 2 k (omega arith) less)
+          (kept 3 k (omega arith) less) ∙ before.targets k less)
+          (λ (most : r ≤ k). subst (λ n. target_row pair.to.desc rows.width new strides n
+          ≡ target_rows pair rows.width 1 (rows.first + n) (source_row pair.from.desc rows.width source source_strides n))
+          {x = r} {y = k} (omega (arith, below, most)) row)
+          (cases_lt k r);
       gaps = λ p i plane outside.
-      byte_kept (row_at old p) (row_at new p) (slice_index strides p) (slice_index sizes p) i r (each old new strides sizes r put p plane)
-      (outside r (omega arith))
-      ∙ before.gaps p i plane (λ k below. outside k (omega (arith, below)));
+          byte_kept (row_at old p) (row_at new p) (slice_index strides p) (slice_index sizes p) i r (each old new strides sizes r put p plane)
+          (outside r (omega arith))
+          ∙ before.gaps p i plane (λ k below. outside k (omega (arith, below)));
     }
 
 -- ---- where rows are held
