@@ -27,6 +27,7 @@ for example in picture threads; do
 done
 "$work/threads"
 printf '\x51\x5a\xf0' | "$work/picture" rgb24 bgr24 1x1 | cmp - <(printf '\xf0\x5a\x51')
+printf '\x51\x5a\xf0' | "$work/picture" yuv444p rgb24 1x1 | cmp - <(printf '\xfe\0\0')
 [ "$("$work/picture" rgb24 yuv420p 1x1 2>&1 </dev/null || true)" = "picture: formats: the format has subsampled chroma" ]
 
 # random calls, as a player makes them, and with every test of the compiler and refused allocations

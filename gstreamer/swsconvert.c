@@ -234,25 +234,15 @@ matrix_name (GstVideoColorMatrix matrix)
   }
 }
 
-/* The range; the default of sws where it is not known: limited with chroma, else full. */
-static guint32
-range_of (const GstVideoInfo * info)
-{
-  switch (info->colorimetry.range) {
-    case GST_VIDEO_COLOR_RANGE_0_255:
-      return SWS_FULL;
-    case GST_VIDEO_COLOR_RANGE_16_235:
-      return SWS_LIMITED;
-    default:
-      return GST_VIDEO_INFO_IS_YUV (info) ? SWS_LIMITED : SWS_FULL;
-  }
-}
-
-/* Sets matrix and range of a side. There is no RGB of limited range in sws. */
+/* Sets matrix and range of a side. A range that is not known stays that of sws_open, the default of sws for the format. There is
+ * no RGB of limited range in sws. */
 static gboolean
 set_side (SwsConvert * self, struct sws_side *side, const GstVideoInfo * info)
 {
-  side->range = range_of (info);
+  if (info->colorimetry.range == GST_VIDEO_COLOR_RANGE_0_255)
+    side->range = SWS_FULL;
+  else if (info->colorimetry.range == GST_VIDEO_COLOR_RANGE_16_235)
+    side->range = SWS_LIMITED;
   if (GST_VIDEO_INFO_IS_RGB (info) && side->range == SWS_LIMITED) {
     GST_ELEMENT_ERROR (self, STREAM, FORMAT, (NULL),
         ("RGB of limited range is not converted"));

@@ -1,7 +1,7 @@
 """Prints the first pixel of two small frames, and that a wrong length is refused."""
 import sws
 
-plan = sws.Plan("yuv444p", "rgb24", from_range="limited")
+plan = sws.Plan("yuv444p", "rgb24")
 print(plan.convert(b"\x51\x5a\xf0", 1, 1).hex())
 print(plan.share().convert(bytes(range(12)), 2, 2).hex()[:6], len(sws.formats()))
 try:

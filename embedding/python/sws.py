@@ -1,6 +1,6 @@
 """Exact conversion between pixel formats, over the shared object that `embedding/build.sh --shared` makes.
 
-    plan = sws.Plan("yuv444p", "rgb24", from_range="limited")
+    plan = sws.Plan("yuv444p", "rgb24", from_matrix="bt709")
     rgb = plan.convert(yuv, width, height)      # bytes, or what numpy.asarray takes
 
 A frame is raw: its planes one behind the other, rows without padding.
@@ -10,7 +10,7 @@ import os
 
 _library = ctypes.CDLL(os.environ.get("SWS_LIBRARY") or os.path.join(os.path.dirname(os.path.abspath(__file__)), "libsws.so"))
 _library.sws_text.restype = ctypes.c_char_p
-_RANGES = {"full": 0, "limited": 1}
+_RANGES = ("full", "limited")
 
 
 class Error(Exception):
@@ -67,15 +67,23 @@ def length(name, width, rows):
     return bytes_.value
 
 
+def default_range(name):
+    """The range that this format is taken to have where nothing else is said: "full" or "limited"."""
+    range_ = ctypes.c_uint32()
+    _call(_library.sws_format_range, ctypes.c_uint32(find(name)), ctypes.byref(range_))
+    return _RANGES[range_.value]
+
+
 def _side(name, matrix, range_):
     parts = _named(_library.sws_matrix, matrix, *(ctypes.c_uint32() for _ in range(3)))
-    return _Side(find(name), *parts, _RANGES[range_])
+    return _Side(find(name), *parts, _RANGES.index(default_range(name) if range_ is None else range_))
 
 
 class Plan:
-    """What is made once for a conversion. One call at a time; `share` gives another thread a plan of its own."""
+    """What is made once for a conversion; a range of None is `default_range`. One call at a time; `share` gives another thread
+    a plan of its own."""
 
-    def __init__(self, source, target, from_matrix="bt601", to_matrix="bt601", from_range="full", to_range="full", dither=0):
+    def __init__(self, source, target, from_matrix="bt601", to_matrix="bt601", from_range=None, to_range=None, dither=0):
         self._owner = _Owner()
         self.source, self.target = source, target
         asked = _Conversion(_side(source, from_matrix, from_range), _side(target, to_matrix, to_range), dither)

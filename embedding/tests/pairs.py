@@ -12,7 +12,8 @@ FULL = ("rgb", "bgr", "argb", "abgr", "0rgb", "0bgr", "gbr", "x2rgb", "x2bgr", "
 
 
 def any_range(name):
-    return "full" if name.startswith(FULL) else random.choice(("full", "limited"))
+    """A range that the program takes, or None, for which both have to take the same."""
+    return random.choice((None, "full") if name.startswith(FULL) else (None, "full", "limited"))
 
 
 def difference(program, names):
@@ -28,7 +29,8 @@ def difference(program, names):
     words = [program, "--in", source, "--size", f"{width}x{rows}", "--out", target]
     for option, key in (("--in-matrix", "from_matrix"), ("--out-matrix", "to_matrix"), ("--in-range", "from_range"),
                         ("--out-range", "to_range"), ("--dither", "dither")):
-        words += [option, str(asked[key])]
+        if asked[key] is not None:
+            words += [option, str(asked[key])]
     run = subprocess.run(words, input=frame, capture_output=True)
     if run.returncode != 0 or run.stdout != made:
         return f"differs: {' '.join(words)}: {run.returncode} {run.stderr.decode()}"

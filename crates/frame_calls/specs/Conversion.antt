@@ -1,4 +1,4 @@
--- What the numbers of a conversion ask for, and the first fault among them.
+-- What the numbers of a conversion ask for, and the first fault among them; the range that a format has.
 use Rattle.std.specs.Prelude.{ℕ, Bool, ◌&&◌, ◌||◌, not, nat_eq, nat_lt, if◌then◌else◌, Result, Ok, Err}
 use Rattle.colour_matrix.specs.declared.class.Range.{Range}
 use Rattle.colour_matrix.specs.declared.class.Range.TheVariants.{Full, Limited}
@@ -7,6 +7,7 @@ use Rattle.colour_matrix.specs.Matrix.{bt601, bt709, bt2020, smpte240m, fcc}
 use Rattle.desc_table.specs.Format.{desc_of, format_count}
 use Rattle.pix_meaning.specs.declared.pair.Side.{Side}
 use Rattle.pix_meaning.specs.declared.pair.Pair.{Pair}
+use Rattle.y4m_io.specs.DefaultRange.{default_range}
 use Rattle.frame_calls.specs.declared.refusal.Refusal.{Refusal}
 use Rattle.frame_calls.specs.declared.refusal.Refusal.TheVariants as refusal
 use Rattle.frame_calls.specs.declared.conversion.ConversionSide.{ConversionSide}
@@ -15,6 +16,11 @@ use Rattle.frame_calls.specs.declared.conversion.Conversion.{Conversion}
 -- 0 is full, and 1 is limited
 abbrev pub range_of : ℕ → Range
 range_of number = if nat_eq number 0 then Full else Limited
+
+-- the number of a range
+abbrev pub range_number : Range → ℕ
+range_number Full = 0
+range_number Limited = 1
 
 -- the matrix of a side's three numbers
 abbrev pub matrix_of : ConversionSide → Matrix
@@ -57,3 +63,7 @@ pair_asked conversion =
     if not (has_matrices conversion) then Err refusal.Matrix else (
     if not (has_ranges conversion) then Err refusal.Range else (
     if nat_lt 4 conversion.dither then Err refusal.Dither else Ok (pair_of conversion)))))
+
+-- the number of the range that a format has where nothing else is said, or the first fault
+unfoldable pub range_asked : ℕ → Result ℕ Refusal
+range_asked format = if not (nat_lt format format_count) then Err refusal.Format else Ok (range_number (default_range format))

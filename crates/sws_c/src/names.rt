@@ -1,14 +1,15 @@
-// Formats and matrices by name.
+// Formats and matrices by name, and the range of a format.
 ghost use Rattle.std.specs.Prelude.{◌≡◌, ◌≢◌, length};
 ghost use Rattle.colour_matrix.specs.Matrix.{matrix_named, of_parts};
 ghost use Rattle.desc_table.specs.Format.{format_count};
 ghost use Rattle.desc_table.specs.Refused.{lookup};
+ghost use Rattle.frame_calls.specs.Conversion.{range_asked};
 ghost use Rattle.frame_calls.specs.Names.{name_asked, written_name};
 ghost use Rattle.sws_c.specs.Status.{status_of, format_status, matrix_status, answer_or, found_or};
 
-use crate::numbers::{DONE, UNKNOWN_NAME, fault_number, status_of};
+use crate::numbers::{DONE, UNKNOWN_NAME, fault_number, number_of, status_of};
 use desc_table::{count, index};
-use frame_calls::{format_named, matrix_named, write_name};
+use frame_calls::{format_named, format_range, matrix_named, write_name};
 
 /// How many formats there are.
 #[tactic(auto, unfolding(desc_table::specs::Format::formats))]
@@ -43,6 +44,21 @@ pub extern "C" fn sws_format_name(format: u32, room: &mut [u8]) -> u32
     ensures unchanged { result ≢ 0 → room.new ≡ room.old }
 {
     status_of(write_name(format, room))
+}
+
+/// The range that a format is taken to have where nothing else is said.
+#[unsafe(no_mangle)]
+pub extern "C" fn sws_format_range(format: u32, range: &mut u32) -> u32
+    ensures status { result ≡ status_of (range_asked format) }
+    ensures written { range.new ≡ answer_or (range_asked format) range.old }
+{
+    match format_range(format) {
+        Ok(number) => {
+            *range = number;
+            DONE
+        }
+        Err(refusal) => number_of(refusal),
+    }
 }
 
 /// The three numbers of the matrix of a name.

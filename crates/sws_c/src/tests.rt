@@ -1,5 +1,7 @@
 // Exports as C calls them.
-use crate::names::{sws_format_count, sws_format_find, sws_format_name, sws_matrix};
+use crate::names::{
+    sws_format_count, sws_format_find, sws_format_name, sws_format_range, sws_matrix,
+};
 use crate::plans::sws_plan_open;
 use crate::rows::{sws_check, sws_convert, sws_frame_bytes};
 use frame_calls::{Conversion, ConversionSide};
@@ -65,5 +67,31 @@ fn finds_and_names(rt: HostRuntime) -> Result<(), Fail> {
     assert_eq!(rt; bytes, 6);
     assert_eq!(rt; sws_matrix(b"bt709", &mut q, &mut r, &mut b), 0);
     assert_eq!(rt; (q, r, b), (10000, 2126, 722));
+    Ok(())
+}
+
+// The range of the format of a name, or 7 where there is none.
+fn range_named(name: &[u8]) -> u32 {
+    let mut format = 4294967295;
+    let mut range = 7;
+    let _found = sws_format_find(name, &mut format);
+    let _status = sws_format_range(format, &mut range);
+    range
+}
+
+#[test]
+fn knows_ranges(rt: HostRuntime) -> Result<(), Fail> {
+    let mut range = 7;
+    assert_eq!(rt; range_named(b"yuv444p"), 1);
+    assert_eq!(rt; range_named(b"nv24"), 1);
+    assert_eq!(rt; range_named(b"vuya"), 1);
+    assert_eq!(rt; range_named(b"yuvj444p"), 0);
+    assert_eq!(rt; range_named(b"gray"), 0);
+    assert_eq!(rt; range_named(b"ya8"), 0);
+    assert_eq!(rt; range_named(b"gbrap"), 0);
+    assert_eq!(rt; range_named(b"pal8"), 0);
+    assert_eq!(rt; range_named(b"yuv420p"), 7);
+    assert_eq!(rt; sws_format_range(0, &mut range), 0);
+    assert_eq!(rt; sws_format_range(109, &mut range), 1);
     Ok(())
 }
