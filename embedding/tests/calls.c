@@ -342,11 +342,13 @@ static void test_planes(const struct asked *asked)
         MUST(!memcmp(out.bytes[p], out.before[p], out.length[p]));
     MUST(sws_run_planes(&plan, 0, 0, 1, &input, &output) == SWS_SIZE);
     MUST(sws_run_planes(&plan, 0, 1, 1, NULL, &output) == SWS_NULL);
-    if (in.size[0] && in.length[0])
-        output.bytes[1] = in.bytes[0], output.length[1] = in.length[0],
+    if (in.length[0]) {
+        output.bytes[1] = in.bytes[0], output.length[1] = in.length[0];
         MUST(sws_run_planes(&plan, 0, 1, 1, &input, &output) == SWS_OVERLAP);
+        output.bytes[1] = NULL;
+    }
     sws_close(&plan);
-    MUST(sws_run_planes(&plan, 0, 1, 1, &input, &output) != SWS_OK);
+    MUST(sws_run_planes(&plan, 0, 1, 1, &input, &output) == SWS_CLOSED);
     for (int p = 0; p < 4; p++)
         free(in.bytes[p]), free(in.before[p]), free(out.bytes[p]), free(out.before[p]);
 }
