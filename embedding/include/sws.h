@@ -9,8 +9,8 @@
  *
  * Threads: a call that takes no sws_plan keeps nothing, and any number of threads may make it at once, also with one struct
  * sws_conversion. One owner of a plan serves one call at a time; sws_share gives each thread an owner of its own. No call
- * blocks, starts a thread, or reads a locale, a file or the environment. sws_run and sws_run_planes take no memory. No call may be made from a
- * signal handler.
+ * blocks, starts a thread, or reads a locale, a file or the environment. sws_run and sws_run_planes take no memory. No call may
+ * be made from a signal handler.
  */
 #ifndef SWS_H
 #define SWS_H
@@ -214,9 +214,9 @@ static inline uint32_t sws_run(struct sws_plan *plan, uint32_t first, uint32_t w
     return sws_plan_convert(*plan, &plan->owner, first, width, rows, input, input_length, output, output_length);
 }
 
-/* Up to four planes, plane p of length[p] bytes at bytes[p], row r of it at bytes[p] + r * stride[p]: the planes of
- * its format's raw frame, in their order. The bytes of a plane reach to the end of its last row, and no row reaches into the next. A
- * null pointer is a plane of no bytes and no stride. */
+/* Up to four planes, those of a raw frame of the format in their order: plane p has length[p] bytes at bytes[p], and its row r
+ * stands at bytes[p] + r * stride[p]. The bytes reach to the end of the last row, and no row reaches into the next. A null
+ * pointer is a plane of no bytes and no stride. */
 struct sws_source_planes {
     const uint8_t *bytes[4];
     size_t stride[4], length[4];

@@ -1,4 +1,4 @@
-use Rattle.std.proofs.Common.{rules, ◌≡◌, ◌∙◌, ℕ, List, slice_index}
+use Rattle.std.proofs.Common.{rules, ◌∙◌, ℕ, slice_index}
 use Rattle.frame_calls.proofs.PlaneRows.{put_alone, put_there, same_rows}
 use Rattle.frame_calls.proofs.planes.convert_row.Goals as goal
 
