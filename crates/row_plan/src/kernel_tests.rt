@@ -18,7 +18,7 @@ use std::test::Fail;
 
 // Name, matrix and range of both sides, and the dither. Their lists have every operation, and their
 // kernels whole numbers of 8, 16 and 32 bits, and numerators of 32, 64 and 128.
-type Conversion = (
+pub type Conversion = (
     (&'static str, &'static str, Range),
     (&'static str, &'static str, Range),
     u8,
@@ -88,7 +88,7 @@ const CONVERSIONS: [Conversion; 12] = [
 ];
 
 // The pair of a conversion.
-fn pair_of(conversion: &Conversion) -> Option<Pair>
+pub fn pair_of(conversion: &Conversion) -> Option<Pair>
     ensures { IfSome result IsPlannable }
 {
     let (source, target, dither) = *conversion;
@@ -98,7 +98,7 @@ fn pair_of(conversion: &Conversion) -> Option<Pair>
 }
 
 // Fills bytes with numbers from a seed.
-fn fill(bytes: &mut [u8], seed: u32)
+pub fn fill(bytes: &mut [u8], seed: u32)
     ensures { length bytes.new ≡ length bytes.old }
 {
     let mut state = seed;

@@ -11,6 +11,8 @@ mod job;
 mod kernel_tests;
 pub mod laws;
 mod making;
+#[cfg(test)]
+mod plane_tests;
 mod planes;
 mod plans;
 mod rows;
