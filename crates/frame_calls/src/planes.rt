@@ -1,5 +1,6 @@
 // The conversion of rows that stand in planes, with bytes between them.
-ghost use Rattle.std.specs.Prelude.{◌≡◌, ◌<◌, ◌+◌, ◌-◌, ◌*◌, ◌≤◌, ◌^◌, ◌&&◌, [], true, length, take};
+ghost use Rattle.std.specs.Prelude.{◌≡◌, ◌<◌, ◌+◌, ◌-◌, ◌*◌, ◌≤◌, ◌^◌, ◌&&◌, []};
+ghost use Rattle.std.specs.Prelude.{true, length, take};
 ghost use Rattle.std.specs.Prelude.{nat_le, OnOk, OnErr};
 ghost use Rattle.pix_desc.specs.Frame.{row_length};
 ghost use Rattle.pix_desc.specs.Layouts.{IsValid};
