@@ -9,8 +9,8 @@
  *
  * Threads: a call that takes no sws_plan keeps nothing, and any number of threads may make it at once, also with one struct
  * sws_conversion. One owner of a plan serves one call at a time; sws_share gives each thread an owner of its own. No call
- * blocks, starts a thread, or reads a locale, a file or the environment. sws_run takes no memory. No call may be made from a
- * signal handler.
+ * blocks, starts a thread, or reads a locale, a file or the environment. sws_run and sws_run_planes take no memory. No call may
+ * be made from a signal handler.
  */
 #ifndef SWS_H
 #define SWS_H
@@ -85,6 +85,14 @@ uint32_t sws_plan_open(const struct sws_conversion *conversion, void **owner);
 uint32_t sws_plan_share(struct sws_plan plan, void **back, void **other);
 uint32_t sws_plan_convert(struct sws_plan plan, void **back, uint32_t first, uint32_t width, uint32_t rows,
                           const uint8_t *input, size_t input_length, uint8_t *output, size_t output_length);
+uint32_t sws_plan_convert_planes(struct sws_plan plan, void **back, uint32_t first, uint32_t width, uint32_t rows,
+                                 const uint8_t *in0, size_t in0_length, const uint8_t *in1, size_t in1_length,
+                                 const uint8_t *in2, size_t in2_length, const uint8_t *in3, size_t in3_length,
+                                 size_t in0_stride, size_t in1_stride, size_t in2_stride, size_t in3_stride,
+                                 const uint8_t *palette, size_t palette_length, uint8_t *out0, size_t out0_length,
+                                 uint8_t *out1, size_t out1_length, uint8_t *out2, size_t out2_length, uint8_t *out3,
+                                 size_t out3_length, size_t out0_stride, size_t out1_stride, size_t out2_stride,
+                                 size_t out3_stride);
 void sws_plan_close(struct sws_plan plan);
 
 /* Formats, numbered from 0, under FFmpeg's names. */
@@ -204,6 +212,79 @@ static inline uint32_t sws_run(struct sws_plan *plan, uint32_t first, uint32_t w
     if (!plan->owner)
         return SWS_CLOSED;
     return sws_plan_convert(*plan, &plan->owner, first, width, rows, input, input_length, output, output_length);
+}
+
+/* Up to four planes, those of a raw frame of the format in their order: plane p has length[p] bytes at bytes[p], and its row r
+ * stands at bytes[p] + r * stride[p]. The bytes reach to the end of the last row, and no row reaches into the next. A null
+ * pointer is a plane of no bytes and no stride. */
+struct sws_source_planes {
+    const uint8_t *bytes[4];
+    size_t stride[4], length[4];
+    const uint8_t *palette; /* 1024 bytes of a pal8 source, else null */
+};
+
+struct sws_target_planes {
+    uint8_t *bytes[4];
+    size_t stride[4], length[4];
+};
+
+/* Whether a slice of bytes shares one with another. */
+static inline int sws_overlap(const uint8_t *bytes, size_t length, const uint8_t *other, size_t other_length)
+{
+    uintptr_t at = (uintptr_t)bytes, there = (uintptr_t)other;
+    return bytes && other && length && other_length && at < there + other_length && there < at + length;
+}
+
+/* What can be told of planes from their addresses and lengths alone. */
+static inline uint32_t sws_check_planes(const struct sws_source_planes *input, const struct sws_target_planes *output)
+{
+    int p, other;
+    for (p = 0; p < 4; p++)
+        if (input->bytes[p] && input->length[p] > PTRDIFF_MAX)
+            return SWS_INPUT_LENGTH;
+    for (p = 0; p < 4; p++)
+        if (output->bytes[p] && output->length[p] > PTRDIFF_MAX)
+            return SWS_OUTPUT_LENGTH;
+    for (p = 0; p < 4; p++) {
+        if (sws_overlap(output->bytes[p], output->length[p], input->palette, 1024))
+            return SWS_OVERLAP;
+        for (other = 0; other < 4; other++)
+            if (sws_overlap(output->bytes[p], output->length[p], input->bytes[other], input->length[other]) ||
+                (other != p && sws_overlap(output->bytes[p], output->length[p], output->bytes[other], output->length[other])))
+                return SWS_OVERLAP;
+    }
+    return SWS_OK;
+}
+
+/* As sws_run, from planes to planes, and nothing is copied. The bytes between the rows stay. SWS_INPUT_LENGTH, SWS_OUTPUT_LENGTH:
+ * a plane is too short, a stride is below the bytes of a row, or the palette is missing. It takes no memory. SWS_SIZE to
+ * SWS_OUTPUT_LENGTH, SWS_NULL, SWS_OVERLAP (also of two planes of the output), SWS_CLOSED. */
+static inline uint32_t sws_run_planes(struct sws_plan *plan, uint32_t first, uint32_t width, uint32_t rows,
+                                      const struct sws_source_planes *input, const struct sws_target_planes *output)
+{
+    uint8_t none[4] = {0, 0, 0, 0};
+    const uint8_t *in[4];
+    uint8_t *out[4];
+    size_t in_length[4], in_stride[4], out_length[4], out_stride[4];
+    uint32_t status = plan && input && output ? sws_check_planes(input, output) : (uint32_t)SWS_NULL;
+    int p;
+    if (status)
+        return status;
+    if (!plan->owner)
+        return SWS_CLOSED;
+    for (p = 0; p < 4; p++) {
+        in[p] = input->bytes[p] ? input->bytes[p] : none;
+        in_length[p] = input->bytes[p] ? input->length[p] : 0;
+        in_stride[p] = input->bytes[p] ? input->stride[p] : 0;
+        out[p] = output->bytes[p] ? output->bytes[p] : &none[p];
+        out_length[p] = output->bytes[p] ? output->length[p] : 0;
+        out_stride[p] = output->bytes[p] ? output->stride[p] : 0;
+    }
+    return sws_plan_convert_planes(*plan, &plan->owner, first, width, rows, in[0], in_length[0], in[1], in_length[1], in[2],
+                                   in_length[2], in[3], in_length[3], in_stride[0], in_stride[1], in_stride[2], in_stride[3],
+                                   input->palette ? input->palette : none, input->palette ? 1024 : 0, out[0], out_length[0],
+                                   out[1], out_length[1], out[2], out_length[2], out[3], out_length[3], out_stride[0],
+                                   out_stride[1], out_stride[2], out_stride[3]);
 }
 
 /* Gives an owner back; the last one frees the plan. Closing it again does nothing. */

@@ -243,6 +243,116 @@ static void test_plan(const struct asked *asked, uint32_t status)
     sws_close(&other);
 }
 
+/* a picture in planes of its own, with bytes between the rows and behind the last */
+struct planes {
+    size_t size[4], stride[4], length[4];
+    uint8_t *bytes[4], *before[4];
+};
+
+/* The bytes of a pixel in a plane, 1 to 8, or 0 where there is no such plane: the least length that is taken for a row of one. */
+static size_t pixel_bytes(struct sws_plan *plan, int of_output, int plane)
+{
+    static uint8_t in[4][16], out[4][16], palette[1024];
+    size_t n;
+    for (n = 0; n <= 8; n++) {
+        struct sws_source_planes input = {{in[0], in[1], in[2], in[3]}, {16, 16, 16, 16}, {16, 16, 16, 16}, palette};
+        struct sws_target_planes output = {{out[0], out[1], out[2], out[3]}, {16, 16, 16, 16}, {16, 16, 16, 16}};
+        *(of_output ? &output.length[plane] : &input.length[plane]) = n;
+        uint32_t status = sws_run_planes(plan, 0, 1, 1, &input, &output);
+        MUST(status == SWS_OK || status == (of_output ? SWS_OUTPUT_LENGTH : SWS_INPUT_LENGTH));
+        if (status == SWS_OK)
+            break;
+    }
+    MUST(n <= 8);
+    return n;
+}
+
+static void any_planes(struct planes *planes, struct sws_plan *plan, int of_output, const struct asked *asked)
+{
+    for (int p = 0; p < 4; p++) {
+        planes->size[p] = asked->width * pixel_bytes(plan, of_output, p);
+        planes->stride[p] = planes->size[p] + (below(3) ? below(9) : 0);
+        planes->length[p] = (asked->rows - 1) * planes->stride[p] + planes->size[p] + (below(3) ? 0 : below(5));
+        planes->bytes[p] = malloc(planes->length[p] + !planes->length[p]);
+        planes->before[p] = malloc(planes->length[p] + 1);
+        for (size_t i = 0; i < planes->length[p]; i++)
+            planes->before[p][i] = planes->bytes[p][i] = (uint8_t)below(256);
+    }
+}
+
+/* the same rows as a raw frame, copied into the planes, or put over what these were before; its length without a palette */
+static size_t copy_frame(struct planes *planes, const uint8_t *frame, uint32_t rows, int over)
+{
+    size_t at = 0;
+    for (int p = 0; p < 4; p++)
+        for (uint32_t row = 0; row < rows; row++, at += planes->size[p])
+            memcpy((over ? planes->before : planes->bytes)[p] + row * planes->stride[p], frame + at, planes->size[p]);
+    return at;
+}
+
+/* a plane that is too short by a byte, or has too short a stride, where it has pixels */
+static int any_fault(struct planes *planes, uint32_t rows)
+{
+    int p = (int)below(4);
+    if (!planes->size[p])
+        return 0;
+    if (below(2) || planes->stride[p] == 0)
+        planes->length[p] = (rows - 1) * planes->stride[p] + planes->size[p] - 1;
+    else
+        planes->stride[p] = planes->size[p] - 1;
+    return 1;
+}
+
+/* and from planes to planes: the rows are those of the raw frame, and the bytes between them stay */
+static void test_planes(const struct asked *asked)
+{
+    struct sws_plan plan = {NULL};
+    struct planes in, out;
+    struct sws_source_planes input;
+    struct sws_target_planes output;
+    uint32_t want = SWS_OK;
+    int pal = asked->conversion.from.format == pal8;
+    if (sws_make(&asked->conversion, &plan))
+        return;
+    any_planes(&in, &plan, 0, asked);
+    any_planes(&out, &plan, 1, asked);
+    MUST(copy_frame(&in, asked->input, asked->rows, 0) + (pal ? 1024 : 0) == asked->input_length);
+    if (!below(4) && any_fault(&out, asked->rows))
+        want = SWS_OUTPUT_LENGTH;
+    if (!below(4) && any_fault(&in, asked->rows))
+        want = SWS_INPUT_LENGTH;
+    if (want == SWS_OK)
+        MUST(copy_frame(&out, asked->output, asked->rows, 1) == asked->output_length);
+    input.palette = pal ? asked->input + asked->input_length - 1024 : NULL;
+    for (int p = 0; p < 4; p++) {
+        input.bytes[p] = in.size[p] || below(2) ? in.bytes[p] : NULL;
+        output.bytes[p] = out.size[p] || below(2) ? out.bytes[p] : NULL;
+        input.stride[p] = in.stride[p], input.length[p] = in.length[p];
+        output.stride[p] = out.stride[p], output.length[p] = out.length[p];
+    }
+    if (pal && !below(8))
+        input.palette = NULL, want = SWS_INPUT_LENGTH;
+    if (want != SWS_OK) /* nothing may be put over */
+        for (int p = 0; p < 4; p++)
+            memcpy(out.before[p], out.bytes[p], out.length[p]);
+    REFUSE_AT(1);
+    MUST(sws_run_planes(&plan, asked->first, asked->width, asked->rows, &input, &output) == want);
+    REFUSE_AT(0);
+    for (int p = 0; p < 4; p++)
+        MUST(!memcmp(out.bytes[p], out.before[p], out.length[p]));
+    MUST(sws_run_planes(&plan, 0, 0, 1, &input, &output) == SWS_SIZE);
+    MUST(sws_run_planes(&plan, 0, 1, 1, NULL, &output) == SWS_NULL);
+    if (in.length[0]) {
+        output.bytes[1] = in.bytes[0], output.length[1] = in.length[0];
+        MUST(sws_run_planes(&plan, 0, 1, 1, &input, &output) == SWS_OVERLAP);
+        output.bytes[1] = NULL;
+    }
+    sws_close(&plan);
+    MUST(sws_run_planes(&plan, 0, 1, 1, &input, &output) == SWS_CLOSED);
+    for (int p = 0; p < 4; p++)
+        free(in.bytes[p]), free(in.before[p]), free(out.bytes[p]), free(out.before[p]);
+}
+
 int main(int argc, char **argv)
 {
     unsigned long calls = argc > 1 ? strtoul(argv[1], NULL, 10) : 500;
@@ -257,7 +367,10 @@ int main(int argc, char **argv)
         test_no_range();
         any_call(&asked);
         test_pointers(&asked);
-        test_plan(&asked, test_convert(&asked));
+        uint32_t status = test_convert(&asked);
+        test_plan(&asked, status);
+        if (status == SWS_OK)
+            test_planes(&asked);
         free(asked.input), free(asked.output), free(asked.before), free(asked.again);
     }
     printf("%lu calls:", calls);

@@ -1,2 +1,3 @@
 pub mod Plannable
 pub mod Texts
+pub mod PlaneRows

@@ -34,7 +34,7 @@ fn is_size(width: u32, count: u32) -> bool
     (1 <= width && width <= 16384) && (1 <= count && count <= 16384)
 }
 
-fn are_rows(rows: &Rows) -> bool
+pub(crate) fn are_rows(rows: &Rows) -> bool
     ensures { result ≡ are_rows rows.now }
 {
     is_size(rows.width, rows.count) && u64::from(rows.first) + u64::from(rows.count) < 4294967296

@@ -7,6 +7,7 @@
 mod names;
 mod numbers;
 mod owner;
+mod planes;
 mod plans;
 mod rows;
 mod shared_plan;
