@@ -131,7 +131,7 @@ one_more pair rows source source_strides strides first old new r before put fit 
           (cases_lt k r);
       gaps = λ p i plane outside.
           byte_kept (row_at old p) (row_at new p) (slice_index strides p) (slice_index sizes p) i r
-              (each old new strides sizes r put p plane)
+          (each old new strides sizes r put p plane)
           (outside r (omega arith))
           ∙ before.gaps p i plane (λ k below. outside k (omega (arith, below)));
     }
@@ -147,9 +147,11 @@ plane_ends : (planes : List (List ℕ)) (strides sizes : List ℕ) (rows p r : �
 plane_ends planes strides sizes rows p r holds inside =
     let ends : (rows - 1) * slice_index strides p + slice_index sizes p ≤ length (row_at planes p) =
     leb-true ((rows - 1) * slice_index strides p + slice_index sizes p) (length (row_at planes p)) (and_right (nat_le (slice_index
-        sizes p) (slice_index strides p)) _ holds) in
-    let less : r * slice_index strides p ≤ (rows - 1) * slice_index strides p = mul-le-mul_right (slice_index strides p) (omega (arith,
-        inside)) in
+    sizes p) (slice_index strides p)) _ holds) in
+    let less : r * slice_index strides p ≤ (rows - 1) * slice_index strides p = mul-le-mul_right (slice_index strides p) (omega (
+      arith,
+      inside,
+    )) in
     omega (arith, ends, less)
 
 all_hold : (planes : List (List ℕ)) (strides sizes : List ℕ) (rows : ℕ) → hold_rows planes strides sizes rows ≡ true → (p : ℕ) → p < 4
@@ -158,7 +160,7 @@ all_hold planes strides sizes rows hold =
     let two = and_left _ _ hold in
     let others = and_right _ _ hold in
     four (λ p. holds_plane planes strides sizes rows p ≡ true) (and_left _ _ two) (and_right _ _ two) (and_left _ _ others)
-        (and_right _ _ others)
+    (and_right _ _ others)
 
 pub they_fit : (planes : List (List ℕ)) (strides sizes : List ℕ) (rows : ℕ) → hold_rows planes strides sizes rows ≡ true
     → Fit strides sizes
@@ -170,8 +172,12 @@ pub row_held : (planes now : List (List ℕ)) (strides sizes : List ℕ) (rows r
     → ((p : ℕ) → p < 4 → length (row_at now p) ≡ length (row_at planes p)) → HoldRow now strides sizes r
 row_held planes now strides sizes rows r hold inside same =
     let at : (p : ℕ) → p < 4 → r * slice_index strides p + slice_index sizes p ≤ length (row_at now p) =
-    λ p plane. omega (arith, plane_ends planes strides sizes rows p r
-        (all_hold planes strides sizes rows hold p plane) inside, same p plane) in
+    λ p plane. omega (
+      arith,
+      plane_ends planes strides sizes rows p r
+          (all_hold planes strides sizes rows hold p plane) inside,
+      same p plane,
+    ) in
     record { first = at 0 (omega arith); second = at 1 (omega arith); third = at 2 (omega arith); fourth = at 3 (omega arith) }
 
 -- ---- the loop over rows
@@ -185,12 +191,12 @@ none_yet pair rows source source_strides strides planes = record {
 
 row_length_is : (planes : List (List ℕ)) (strides sizes : List ℕ) (r p : ℕ)
     → r * slice_index strides p + slice_index sizes p ≤ length (row_at planes p)
-        → length (row_of planes strides sizes r p) ≡ slice_index sizes p
+    → length (row_of planes strides sizes r p) ≡ slice_index sizes p
 row_length_is planes strides sizes r p room =
     let at = r * slice_index strides p in
     let count : at + slice_index sizes p - at ≡ slice_index sizes p = omega arith in
     length-take-le (at + slice_index sizes p - at) (drop at (row_at planes p)) (omega (arith, room, length-drop at (row_at planes p)))
-        ∙ count
+    ∙ count
 
 pub rows_have_sizes : (desc : Desc) (width : ℕ) (planes rows : List (List ℕ)) (strides sizes : List ℕ) (r : ℕ)
     → HoldRow planes strides sizes r → sizes ≡ row_sizes desc width → rows ≡ rows_at planes strides sizes r → AreRowsOf desc width rows

@@ -1,4 +1,4 @@
--- The rows of the planes of a pair's formats, as the normal list of the pair reads and writes them, and the frames of one row that they make.
+-- The rows of the planes that the normal list of a pair reads and writes, and the frames of one row that they make.
 use Rattle.std.proofs.Common.{◌≡◌, ℕ, zero, suc, ◌+◌, ◌*◌, ◌/◌, ◌<◌, ⊎_elim, true, false, List, [], ◌∷◌, ◌++◌}
 use Rattle.std.proofs.Common.{length, slice_index, slice_index_or, length-append, refl, sym, ◌∙◌, ap, subst, arith}
 use Rattle.std.specs.Prelude.{sum, All}
