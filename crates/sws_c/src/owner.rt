@@ -25,12 +25,14 @@ impl Model for PlanOwner {
 }
 
 impl PlanOwner {
+    /// An open owner of what a box holds.
     pub fn of(shared: Box<SharedPlan>) -> PlanOwner
         ensures { result.kept ≡ Some shared.value }
     {
         PlanOwner::of_parts(Parts::of(shared))
     }
 
+    /// A closed owner: the null pointer. It takes no memory.
     pub fn closed(alloc: Global) -> PlanOwner
         ensures { result.kept ≡ None }
     {
@@ -40,6 +42,7 @@ impl PlanOwner {
         }
     }
 
+    /// What an open owner keeps, as the box that it was made of.
     pub fn into_box(self) -> Box<SharedPlan>
         requires { IsSome self.kept }
         ensures { Some result.value ≡ self.kept }

@@ -40,7 +40,7 @@ fn opened(alloc: Global, conversion: &Conversion) -> Result<Box<SharedPlan>, Ref
     }
 }
 
-// What an open owner keeps; the owner is closed after it.
+/// Takes out what an open owner keeps, and leaves it closed. It takes no memory.
 pub fn take(alloc: Global, plan: &mut PlanOwner) -> Box<SharedPlan>
     requires { IsSome plan.old.kept }
     ensures taken { Some result.value ≡ plan.old.kept }
