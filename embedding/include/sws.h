@@ -65,13 +65,14 @@ struct sws_conversion {
     uint32_t dither; /* 0: rounded half up; 1 to 4: ordered dither over squares of 2^dither pixels */
 };
 
-/* An owner of a plan: what is made once for a conversion. Begin with {NULL}. Never copy one: hand over its address. */
+/* An owner of a plan: what is made once for a conversion. Begin with {NULL}, which is closed. Never copy one: hand over its address. */
 struct sws_plan {
     void *owner;
 };
 
 /* What the archive exports. These take pointers as good as they are: call the functions below. A slice of bytes is a pointer
- * and a length; an owner goes in by value, and comes back through a pointer. */
+ * and a length. An owner must be open where sws_plan_share takes its first one, and where sws_plan_convert, sws_plan_convert_planes and
+ * sws_plan_close take theirs; what an owner held before sws_plan_open or sws_plan_share writes it is forgotten, not freed. */
 uint32_t sws_format_count(void);
 uint32_t sws_format_find(const uint8_t *name, size_t name_length, uint32_t *format);
 uint32_t sws_format_name(uint32_t format, uint8_t *room, size_t room_length);
@@ -81,11 +82,11 @@ uint32_t sws_frame_bytes(uint32_t format, uint32_t width, uint32_t rows, uint64_
 uint32_t sws_check(const struct sws_conversion *conversion);
 uint32_t sws_convert(const struct sws_conversion *conversion, uint32_t first, uint32_t width, uint32_t rows,
                      const uint8_t *input, size_t input_length, uint8_t *output, size_t output_length);
-uint32_t sws_plan_open(const struct sws_conversion *conversion, void **owner);
-uint32_t sws_plan_share(struct sws_plan plan, void **back, void **other);
-uint32_t sws_plan_convert(struct sws_plan plan, void **back, uint32_t first, uint32_t width, uint32_t rows,
+uint32_t sws_plan_open(const struct sws_conversion *conversion, struct sws_plan *plan);
+uint32_t sws_plan_share(struct sws_plan *plan, struct sws_plan *other);
+uint32_t sws_plan_convert(struct sws_plan *plan, uint32_t first, uint32_t width, uint32_t rows,
                           const uint8_t *input, size_t input_length, uint8_t *output, size_t output_length);
-uint32_t sws_plan_convert_planes(struct sws_plan plan, void **back, uint32_t first, uint32_t width, uint32_t rows,
+uint32_t sws_plan_convert_planes(struct sws_plan *plan, uint32_t first, uint32_t width, uint32_t rows,
                                  const uint8_t *in0, size_t in0_length, const uint8_t *in1, size_t in1_length,
                                  const uint8_t *in2, size_t in2_length, const uint8_t *in3, size_t in3_length,
                                  size_t in0_stride, size_t in1_stride, size_t in2_stride, size_t in3_stride,
@@ -93,7 +94,7 @@ uint32_t sws_plan_convert_planes(struct sws_plan plan, void **back, uint32_t fir
                                  uint8_t *out1, size_t out1_length, uint8_t *out2, size_t out2_length, uint8_t *out3,
                                  size_t out3_length, size_t out0_stride, size_t out1_stride, size_t out2_stride,
                                  size_t out3_stride);
-void sws_plan_close(struct sws_plan plan);
+void sws_plan_close(struct sws_plan *plan);
 
 /* Formats, numbered from 0, under FFmpeg's names. */
 
@@ -188,7 +189,7 @@ static inline uint32_t sws_make(const struct sws_conversion *conversion, struct 
 {
     if (!conversion || !plan)
         return SWS_NULL;
-    return sws_plan_open(conversion, &plan->owner);
+    return sws_plan_open(conversion, plan);
 }
 
 /* Makes another owner of a plan, for another thread; the plan is not copied. `other` is new or closed. SWS_MEMORY, SWS_NULL,
@@ -199,7 +200,7 @@ static inline uint32_t sws_share(struct sws_plan *plan, struct sws_plan *other)
         return SWS_NULL;
     if (!plan->owner)
         return SWS_CLOSED;
-    return sws_plan_share(*plan, &plan->owner, &other->owner);
+    return sws_plan_share(plan, other);
 }
 
 /* As sws_convert_rows, by a plan. It takes no memory. SWS_SIZE to SWS_OUTPUT_LENGTH, SWS_NULL, SWS_OVERLAP, SWS_CLOSED. */
@@ -211,7 +212,7 @@ static inline uint32_t sws_run(struct sws_plan *plan, uint32_t first, uint32_t w
         return status;
     if (!plan->owner)
         return SWS_CLOSED;
-    return sws_plan_convert(*plan, &plan->owner, first, width, rows, input, input_length, output, output_length);
+    return sws_plan_convert(plan, first, width, rows, input, input_length, output, output_length);
 }
 
 /* Up to four planes, those of a raw frame of the format in their order: plane p has length[p] bytes at bytes[p], and its row r
@@ -280,7 +281,7 @@ static inline uint32_t sws_run_planes(struct sws_plan *plan, uint32_t first, uin
         out_length[p] = output->bytes[p] ? output->length[p] : 0;
         out_stride[p] = output->bytes[p] ? output->stride[p] : 0;
     }
-    return sws_plan_convert_planes(*plan, &plan->owner, first, width, rows, in[0], in_length[0], in[1], in_length[1], in[2],
+    return sws_plan_convert_planes(plan, first, width, rows, in[0], in_length[0], in[1], in_length[1], in[2],
                                    in_length[2], in[3], in_length[3], in_stride[0], in_stride[1], in_stride[2], in_stride[3],
                                    input->palette ? input->palette : none, input->palette ? 1024 : 0, out[0], out_length[0],
                                    out[1], out_length[1], out[2], out_length[2], out[3], out_length[3], out_stride[0],
@@ -291,7 +292,7 @@ static inline uint32_t sws_run_planes(struct sws_plan *plan, uint32_t first, uin
 static inline void sws_close(struct sws_plan *plan)
 {
     if (plan && plan->owner) {
-        sws_plan_close(*plan);
+        sws_plan_close(plan);
         plan->owner = NULL;
     }
 }

@@ -92,7 +92,7 @@ class Plan:
     def share(self):
         other = Plan.__new__(Plan)
         other._owner, other.source, other.target = _Owner(), self.source, self.target
-        _call(_library.sws_plan_share, self._open(), ctypes.byref(self._owner), ctypes.byref(other._owner))
+        _call(_library.sws_plan_share, self._open(), ctypes.byref(other._owner))
         return other
 
     def convert(self, frame, width, rows, first=0):
@@ -101,19 +101,19 @@ class Plan:
         given = memoryview(frame).cast("B") if not is_array else memoryview(_contiguous(frame)).cast("B")
         source = (ctypes.c_char * max(len(given), 1)).from_buffer_copy(given if len(given) else b"\0")
         target = (ctypes.c_char * length(self.target, width, rows))()
-        _call(_library.sws_plan_convert, self._open(), ctypes.byref(self._owner), *map(ctypes.c_uint32, (first, width, rows)),
+        _call(_library.sws_plan_convert, self._open(), *map(ctypes.c_uint32, (first, width, rows)),
               source, ctypes.c_size_t(len(given)), target, ctypes.c_size_t(len(target)))
         return _as_array(target) if is_array else target.raw
 
     def close(self):
         if self._owner.owner:
-            _library.sws_plan_close(self._owner)
+            _library.sws_plan_close(ctypes.byref(self._owner))
             self._owner.owner = None
 
     def _open(self):
         if not self._owner.owner:
             raise Error(18)
-        return self._owner
+        return ctypes.byref(self._owner)
 
     def __del__(self):
         if hasattr(self, "_owner"):

@@ -1,21 +1,23 @@
 // The conversion of rows that stand in planes.
-ghost use Rattle.std.specs.Prelude.{◌≡◌, ◌≢◌, [], ◌∷◌};
-ghost use Rattle.std.specs.Arc.{arc_value};
+ghost use Rattle.std.specs.Prelude.{◌≡◌, ◌≢◌, [], ◌∷◌, IfSome, IsSome};
 ghost use Rattle.kernel_int.specs.Planes.{row_list};
 ghost use Rattle.frame_calls.specs.Planes.{planes_asked, AreRowsConverted};
+ghost use Rattle.sws_c.specs.Kept.{plan_kept};
 ghost use Rattle.sws_c.specs.Status.{status_of};
 
 use crate::numbers::status_of;
 use crate::owner::PlanOwner;
+use crate::plans::take;
 use frame_calls::{Rows, convert_planes};
 use row_plan::Planes;
+use std::alloc::Global;
 
-/// Converts some rows by a plan, from planes with strides to planes with strides, and gives its
-/// owner `back`. The bytes between rows stay. It takes no memory.
+/// Converts some rows by a plan, whose owner keeps it, from planes with strides to planes with
+/// strides. The bytes between rows stay. It takes no memory.
 #[unsafe(no_mangle)]
 pub extern "C" fn sws_plan_convert_planes(
-    plan: PlanOwner,
-    back: &mut *mut u8,
+    alloc: Global,
+    plan: &mut PlanOwner,
     row: u32,
     width: u32,
     rows: u32,
@@ -37,7 +39,10 @@ pub extern "C" fn sws_plan_convert_planes(
     stride_third: usize,
     stride_fourth: usize,
 ) -> u32
-    ensures status { result ≡ status_of (planes_asked (arc_value plan.shared.plan).pair
+    requires open { IsSome plan.old.kept }
+    ensures kept { plan.new.kept ≡ plan.old.kept }
+    ensures status { IfSome (plan_kept plan.old.kept) (λ kept. result ≡ status_of (planes_asked
+        kept.pair
         (record { first = row; width = width; count = rows })
         (record {
           first = in_first.entry;
@@ -48,8 +53,9 @@ pub extern "C" fn sws_plan_convert_planes(
         })
         (in_stride_first ∷ in_stride_second ∷ in_stride_third ∷ in_stride_fourth ∷ [])
         (row_list first.old second.old third.old fourth.old)
-        (stride_first ∷ stride_second ∷ stride_third ∷ stride_fourth ∷ [])) }
-    ensures converted { result ≡ 0 → AreRowsConverted (arc_value plan.shared.plan).pair
+        (stride_first ∷ stride_second ∷ stride_third ∷ stride_fourth ∷ []))) }
+    ensures converted { result ≡ 0 → IfSome (plan_kept plan.old.kept) (λ kept. AreRowsConverted
+        kept.pair
         (record { first = row; width = width; count = rows })
         (record {
           first = in_first.entry;
@@ -61,7 +67,7 @@ pub extern "C" fn sws_plan_convert_planes(
         (in_stride_first ∷ in_stride_second ∷ in_stride_third ∷ in_stride_fourth ∷ [])
         (stride_first ∷ stride_second ∷ stride_third ∷ stride_fourth ∷ [])
         (row_list first.old second.old third.old fourth.old)
-        (row_list first.new second.new third.new fourth.new) rows }
+        (row_list first.new second.new third.new fourth.new) rows) }
     ensures unchanged { result ≢ 0 → row_list first.new second.new third.new fourth.new
         ≡ row_list first.old second.old third.old fourth.old }
 {
@@ -77,9 +83,9 @@ pub extern "C" fn sws_plan_convert_planes(
         fourth: in_fourth,
         palette,
     };
-    let owner = plan.into_box();
+    let shared = take(alloc, plan);
     let status = status_of(convert_planes(
-        &owner.plan,
+        &shared.plan,
         &rows,
         &source,
         &[
@@ -94,6 +100,6 @@ pub extern "C" fn sws_plan_convert_planes(
         fourth,
         &[stride_first, stride_second, stride_third, stride_fourth],
     ));
-    *back = Box::into_raw(owner) as *mut u8;
+    *plan = PlanOwner::of(shared);
     status
 }

@@ -1,10 +1,12 @@
 // Conversions by a plan that is kept from one call to the next.
-ghost use Rattle.std.specs.Prelude.{◌≡◌, ◌≢◌, ◌⊎◌, length, IfOk, IfErr, Ok};
+ghost use Rattle.std.specs.Prelude.{◌≡◌, ◌≢◌, ◌⊎◌, length, IfOk, IfErr, IfSome, IsSome, Ok, Some};
+ghost use Rattle.std.specs.Prelude.{None};
 ghost use Rattle.std.specs.Arc.{arc_value};
 ghost use Rattle.pix_meaning.specs.Target.{target_rows};
 ghost use Rattle.frame_calls.specs.declared.refusal.Refusal.{Refusal};
 ghost use Rattle.frame_calls.specs.Conversion.{pair_asked};
 ghost use Rattle.frame_calls.specs.Calls.{rows_asked, IsRefusalOf};
+ghost use Rattle.sws_c.specs.Kept.{plan_kept, IsPlanOf};
 ghost use Rattle.sws_c.specs.Status.{status_of, number_of, IsStatusOf};
 
 use crate::numbers::{DONE, number_of, status_of};
@@ -39,6 +41,16 @@ fn opened(alloc: Global, conversion: &Conversion) -> Result<Box<SharedPlan>, Ref
     }
 }
 
+/// Takes out what an open owner keeps, and leaves it closed. It takes no memory.
+pub fn take(alloc: Global, plan: &mut PlanOwner) -> Box<SharedPlan>
+    requires { IsSome plan.old.kept }
+    ensures taken { Some result.value ≡ plan.old.kept }
+    ensures closed { plan.new.kept ≡ None }
+{
+    let closed = PlanOwner::closed(alloc);
+    std::mem::replace(plan, closed).into_box()
+}
+
 // Another owner of a plan.
 fn again(alloc: Global, plan: &Arc<Plan, Global>) -> Result<Box<SharedPlan>, Refusal>
     ensures plan { IfOk result (λ owner. arc_value owner.value.plan ≡ arc_value plan.now) }
@@ -50,61 +62,62 @@ fn again(alloc: Global, plan: &Arc<Plan, Global>) -> Result<Box<SharedPlan>, Ref
     }
 }
 
-/// Opens a plan, and writes its one owner.
+/// Opens a plan, and makes `plan` its one owner. What `plan` owned before is forgotten.
 #[unsafe(no_mangle)]
-pub extern "C" fn sws_plan_open(alloc: Global, conversion: &Conversion, plan: &mut *mut u8) -> u32
+pub extern "C" fn sws_plan_open(alloc: Global, conversion: &Conversion, plan: &mut PlanOwner) -> u32
     ensures status { IsStatusOf (pair_asked conversion.now) result }
+    ensures plan { result ≡ 0 → IsPlanOf plan.new.kept (pair_asked conversion.now) }
     ensures unchanged { result ≢ 0 → plan.new ≡ plan.old }
 {
     match opened(alloc, conversion) {
-        Ok(owner) => {
-            *plan = Box::into_raw(owner) as *mut u8;
+        Ok(shared) => {
+            *plan = PlanOwner::of(shared);
             DONE
         }
         Err(refusal) => number_of(refusal),
     }
 }
 
-/// Takes an owner and gives it `back`, and writes another owner of its plan, for another thread. It
-/// copies no plan.
+/// Makes `other` another owner of the plan of `plan`, for another thread. It copies no plan. What
+/// `other` owned before is forgotten.
 #[unsafe(no_mangle)]
-pub extern "C" fn sws_plan_share(
-    alloc: Global,
-    plan: PlanOwner,
-    back: &mut *mut u8,
-    other: &mut *mut u8,
-) -> u32
+pub extern "C" fn sws_plan_share(alloc: Global, plan: &mut PlanOwner, other: &mut PlanOwner) -> u32
+    requires open { IsSome plan.old.kept }
     ensures status { (result ≡ 0) ⊎ (result ≡ 9) }
+    ensures kept { plan.new.kept ≡ plan.old.kept }
+    ensures shared { result ≡ 0 → plan_kept other.new.kept ≡ plan_kept plan.old.kept }
     ensures unchanged { result ≢ 0 → other.new ≡ other.old }
 {
-    let owner = plan.into_box();
-    let made = again(alloc, &owner.plan);
-    *back = Box::into_raw(owner) as *mut u8;
+    let shared = take(alloc, plan);
+    let made = again(alloc, &shared.plan);
+    *plan = PlanOwner::of(shared);
     match made {
         Ok(made) => {
-            *other = Box::into_raw(made) as *mut u8;
+            *other = PlanOwner::of(made);
             DONE
         }
         Err(refusal) => number_of(refusal),
     }
 }
 
-/// Converts some rows by a plan, and gives its owner `back`. It takes no memory.
+/// Converts some rows by a plan, whose owner keeps it. It takes no memory.
 #[unsafe(no_mangle)]
 pub extern "C" fn sws_plan_convert(
-    plan: PlanOwner,
-    back: &mut *mut u8,
+    alloc: Global,
+    plan: &mut PlanOwner,
     first: u32,
     width: u32,
     rows: u32,
     input: &[u8],
     output: &mut [u8],
 ) -> u32
-    ensures status { result ≡ status_of (rows_asked (arc_value plan.shared.plan).pair
-        (record { first = first; width = width; count = rows }) (length input.now)
-        (length output.old)) }
-    ensures target { result ≡ 0
-        → output.new ≡ target_rows (arc_value plan.shared.plan).pair width rows first input.now }
+    requires open { IsSome plan.old.kept }
+    ensures kept { plan.new.kept ≡ plan.old.kept }
+    ensures status { IfSome (plan_kept plan.old.kept) (λ kept. result ≡ status_of (rows_asked
+        kept.pair (record { first = first; width = width; count = rows }) (length input.now)
+        (length output.old))) }
+    ensures target { result ≡ 0 → IfSome (plan_kept plan.old.kept)
+        (λ kept. output.new ≡ target_rows kept.pair width rows first input.now) }
     ensures unchanged { result ≢ 0 → output.new ≡ output.old }
 {
     let rows = Rows {
@@ -112,14 +125,17 @@ pub extern "C" fn sws_plan_convert(
         width,
         count: rows,
     };
-    let owner = plan.into_box();
-    let status = status_of(convert_by(&owner.plan, &rows, input, output));
-    *back = Box::into_raw(owner) as *mut u8;
+    let shared = take(alloc, plan);
+    let status = status_of(convert_by(&shared.plan, &rows, input, output));
+    *plan = PlanOwner::of(shared);
     status
 }
 
-/// Gives an owner back. The last one frees the plan.
+/// Closes an owner. The last one frees the plan.
 #[unsafe(no_mangle)]
-pub extern "C" fn sws_plan_close(plan: PlanOwner) {
-    let _owner = plan.into_box();
+pub extern "C" fn sws_plan_close(alloc: Global, plan: &mut PlanOwner)
+    requires open { IsSome plan.old.kept }
+    ensures { plan.new.kept ≡ None }
+{
+    let _shared = take(alloc, plan);
 }

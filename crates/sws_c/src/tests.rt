@@ -2,7 +2,8 @@
 use crate::names::{
     sws_format_count, sws_format_find, sws_format_name, sws_format_range, sws_matrix,
 };
-use crate::plans::sws_plan_open;
+use crate::owner::PlanOwner;
+use crate::plans::{sws_plan_close, sws_plan_open};
 use crate::rows::{sws_check, sws_convert, sws_frame_bytes};
 use frame_calls::{Conversion, ConversionSide};
 use std::test::Fail;
@@ -45,8 +46,9 @@ fn converts_a_pixel(rt: HostRuntime) -> Result<(), Fail> {
         sws_convert(rt.alloc(), &conversion, 0, 1, 1, &[81, 90], &mut output),
         7
     );
-    let mut owner = std::ptr::null_mut();
+    let mut owner = PlanOwner::closed(rt.alloc());
     assert_eq!(rt; sws_plan_open(rt.alloc(), &conversion, &mut owner), 0);
+    sws_plan_close(rt.alloc(), &mut owner);
     Ok(())
 }
 

@@ -1,30 +1,35 @@
 -- `into_parts` moves two fields, and what they own goes with them.
-use mathlib.Core.Path.{refl, sym, subst}
+use mathlib.Core.Path.{◌≡◌, refl, sym, subst}
 use mathlib.Core.List.{List, [], ◌∷◌, ◌++◌}
 use seplogic.Ra.Ura.{Ura}
 use mir.Val.{Val}
-use base.Logic.{SProp, ent, emp, id⊢}
-use base.Fml.{ftrue, fsep}
+use base.Logic.{SProp, ent, id⊢}
+use base.Fml.{Fml, ftrue, fsep}
 use prog.Memory.{Memory}
 use prog.Routine.{Routine}
 use prog.Wp.{WpFn, Tables}
 use types.Logic.{Logic}
-use contract.Monad.{Fun}
+use contract.Monad.{Fun, fact}
 use contract.Running.{tables, tables_of}
 use sound.WpLaws.{WpFn-mono}
-use types.Kit.{Item, ‵, raw, ◌⊛◌, ◌$◌, ◌∵◌, !, qed, by, move, drop, use1, join, split, fsplit, fjoin, suffices, done}
+use types.Kit.{Item, ‵, raw, ◌⊛◌, ◌$◌, ◌∵◌, !, qed, by, move, drop, use1, join, split, rewrite, fsplit, fjoin, suffices, done}
 use types.Part.{whole, sub, agg}
 use types.Run.{stop, fld, no_more, and_then, of_opd, returns, enter}
 use types.ByLocal.{alloc_all, pass_all, free_all, look_at, get, get_in, sets}
 use denote.Exit.{yes}
 use denote.Signature.{type_at}
-use denote.Steps.{nothing}
+use denote.RawPtr.{Ptr}
+use denote.Steps.{heard, nothing}
 use denote.Triple.Spec.{triple_of}
 use denote.Triple.Table.{entered}
 use denote.Triple.Walked.{says, Stays, stay_dropped, walk_of, ends_at, Goes-dropped, walk_Meets}
+use Rattle.std.specs.Prelude.{Option, Some, None, IsSome}
+use Rattle.std.specs.Global.{Global}
 use Rattle.std.proofs.BoxSteps.Form.{D, B, word, box_typed}
 use Rattle.std.proofs.BoxSteps.Steps.{box_out, box_in}
 use Rattle.sws_c.proofs.AsBox.{E, FromOwner as From}
+use Rattle.sws_c.specs.contracts.shared_plan.SharedPlan as Home
+use Rattle.sws_c.specs.contracts.owner.PlanOwner as PlanOwner
 use Rattle.sws_c.specs.contracts.owner.PlanOwner.into_parts as F
 use Rattle.sws_c.specs.contracts.owner.PlanOwner.into_parts.Key.{name as #self}
 use Rattle.sws_c.proofs.owner.PlanOwner.into_parts.Statement as stated
@@ -32,6 +37,14 @@ use Rattle.sws_c.proofs.owner.PlanOwner.into_parts.Code as code
 
 abbrev stayed : Stays (F.ended).signature.params (F.ended).kept
 stayed = (stay_dropped From yes, tt)
+
+-- what an open owner keeps
+is_kept : {X : Type 0} (kept : Option X) → IsSome kept → (shared : X) × (kept ≡ Some shared)
+is_kept (Some shared) is_open = (shared, refl)
+is_kept None is_open = absurd (let no : ⊥ = cc is_open in no)
+
+abbrev owned : Ptr → Global → List Val → Option Home.the_row.Denot → Fml
+owned ptr alloc words kept = PlanOwner.the_row.own_val (record { ptr = ptr; alloc = alloc; kept = kept }) words
 
 module _ {M : Type 1} {𝓤 : Ura M} (𝓛 : Logic 𝓤) (at_mem : Memory → SProp 𝓤) (run : Routine → Fun 𝓤) (𝓣 : Tables 𝓤 𝓛.H) where
   open 𝓛 use {H}
@@ -41,10 +54,15 @@ module _ {M : Type 1} {𝓤 : Ura M} (𝓛 : Logic 𝓤) (at_mem : Memory → SP
       ((walk_of 𝓛 F.ended stayed (F.clauses 𝓛 at_mem run)).post z))
   walk z =
       let Post = (walk_of 𝓛 F.ended stayed (F.clauses 𝓛 at_mem run)).post z in
-      let v : D E = record { ptr = z.0.3.0.ptr; alloc = z.0.3.0.alloc; value = z.0.3.0.shared } in
       let To = type_at (F.signature).result tt in
+      qed 𝓛 ((‵ ftrue ⊛ ‵ (fsep (owned z.0.3.0.ptr z.0.3.0.alloc z.0.4.0 z.0.3.0.kept) ftrue)) ∷ raw (fact 𝓤 (IsSome z.0.3.0.kept)) ∷ []) ∵
+      move ! (1 ∷ []) $ heard ! (IsSome z.0.3.0.kept) (λ is_open.
+      let found = is_kept z.0.3.0.kept is_open in
+      let v : D E = record { ptr = z.0.3.0.ptr; alloc = z.0.3.0.alloc; value = found.0 } in
       let made : To.Denot = record { ptr = v.ptr; alloc = v.alloc; value = v.value } in
-      qed 𝓛 ((‵ ftrue ⊛ ‵ (fsep ((B E).own_val v z.0.4.0) ftrue)) ∷ raw (emp 𝓤) ∷ []) ∵ split ! $ drop ! $ fsplit ! $
+      split ! $ drop ! $
+      rewrite ! 0 (λ kept. ‵ (fsep (owned v.ptr v.alloc z.0.4.0 kept) ftrue)) found.1 refl $
+      use1 𝓛 (‵ (fsep ((B E).own_val v z.0.4.0) ftrue)) (id⊢ 𝓤 _) $ fsplit ! $
       box_out E ! v z.0.4.0 (λ b o hv e ws fa. box_in E ! v b o v.value e refl $
       use1 𝓛 (‵ (To.own_val made (word E hv b o ∷ []))) (id⊢ 𝓤 _) $ move ! (1 ∷ 2 ∷ []) $ drop ! $ drop ! $
       let w = word E hv b o in
@@ -57,8 +75,8 @@ module _ {M : Type 1} {𝓤 : Ura M} (𝓛 : Logic 𝓤) (at_mem : Memory → SP
       sets ! (of_opd ! (get ! refl)) refl (tt, tt) $
       sets ! (agg ! (and_then ! (get ! refl) (and_then ! (get ! refl) (no_more !)))) refl (box_typed E hv b o fa) $
       returns ! (look_at ! 0 refl) $ free_all ! refl $
-      suffices ! _ (ends_at 𝓛 F.ended stayed (F.clauses 𝓛 at_mem run) z w made (tt, tt) (tt, tt)) $ says ! refl $
-      nothing ! $ nothing ! $ fjoin ! $ join ! $ nothing ! $ join ! $ done !))))
+      suffices ! _ (ends_at 𝓛 F.ended stayed (F.clauses 𝓛 at_mem run) z w made (tt, tt) (tt, tt)) $ says ! (sym found.1) $
+      nothing ! $ nothing ! $ fjoin ! $ join ! $ nothing ! $ join ! $ done !)))))
 
 pub into_parts_spec : {M : Type 1} → stated.statement M
 unfolding tables_of
