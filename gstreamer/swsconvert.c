@@ -16,18 +16,8 @@ GST_DEBUG_CATEGORY_STATIC (sws_convert_debug);
 #define LARGEST_SIDE 16384
 #define LARGEST_DITHER 4
 
-/* Rows that are packed, converted and unpacked at a time. */
-#define SLICE_ROWS 16
-
 #define SWS_TYPE_CONVERT (sws_convert_get_type ())
 G_DECLARE_FINAL_TYPE (SwsConvert, sws_convert, SWS, CONVERT, GstVideoFilter)
-
-/* One side's slice as the archive takes it: a raw frame of its rows, its planes one behind the other, rows without padding. */
-struct slice
-{
-  guint8 *bytes;
-  gsize row_bytes;              /* of all planes */
-};
 
 struct _SwsConvert
 {
@@ -37,7 +27,6 @@ struct _SwsConvert
 
   /* made when the caps are known, and used for every frame */
   struct sws_plan plan;
-  struct slice source, target;
 };
 
 enum
@@ -212,8 +201,6 @@ static void
 release (SwsConvert * self)
 {
   sws_close (&self->plan);
-  g_clear_pointer (&self->source.bytes, g_free);
-  g_clear_pointer (&self->target.bytes, g_free);
 }
 
 /* The name of a matrix; bt601, the default of sws, where it is not known. */
@@ -252,21 +239,17 @@ set_side (SwsConvert * self, struct sws_side *side, const GstVideoInfo * info)
       SWS_OK;
 }
 
-/* Makes the room of a side's slice. False where the archive has rows of another length than GStreamer. */
+/* Whether the archive has rows of the same length as GStreamer. */
 static gboolean
-make_slice (struct slice *slice, guint32 format, const GstVideoInfo * info)
+has_same_rows (guint32 format, const GstVideoInfo * info)
 {
-  guint64 row_bytes;
+  guint64 row_bytes, shared = 0;
   guint plane;
 
-  slice->row_bytes = 0;
   for (plane = 0; plane < GST_VIDEO_INFO_N_PLANES (info); plane++)
-    slice->row_bytes += shared_row_bytes (info, plane);
-  if (sws_bytes (format, GST_VIDEO_INFO_WIDTH (info), 1, &row_bytes) != SWS_OK
-      || row_bytes != slice->row_bytes)
-    return FALSE;
-  slice->bytes = g_try_malloc (slice->row_bytes * SLICE_ROWS);
-  return slice->bytes != NULL;
+    shared += shared_row_bytes (info, plane);
+  return sws_bytes (format, GST_VIDEO_INFO_WIDTH (info), 1,
+      &row_bytes) == SWS_OK && row_bytes == shared;
 }
 
 static gboolean
@@ -295,10 +278,10 @@ sws_convert_set_info (GstVideoFilter * filter, GstCaps * in_caps,
         ("no plan: %s", sws_text (status)));
     return FALSE;
   }
-  if (!make_slice (&self->source, conversion.from.format, in) ||
-      !make_slice (&self->target, conversion.to.format, out)) {
-    GST_ELEMENT_ERROR (self, RESOURCE, NO_SPACE_LEFT, (NULL),
-        ("no room for slices of %d rows", SLICE_ROWS));
+  if (!has_same_rows (conversion.from.format, in) ||
+      !has_same_rows (conversion.to.format, out)) {
+    GST_ELEMENT_ERROR (self, LIBRARY, SETTINGS, (NULL),
+        ("rows of another length"));
     return FALSE;
   }
   return TRUE;
@@ -313,59 +296,24 @@ sws_convert_stop (GstBaseTransform * trans)
 
 /* --- frames --- */
 
-/* Copies some rows of a frame's planes into a slice, or from it. Rows stand `stride` bytes apart in the frame and without a gap
- * in the slice: the copy goes away with an export of the archive that takes planes with strides. */
-static void
-copy_rows (GstVideoFrame * frame, guint first, guint rows, guint8 * packed,
-    gboolean into_frame)
+/* The bytes of a plane, from its first row to the end of its last. */
+static gsize
+plane_length (const GstVideoFrame * frame, guint plane)
 {
-  guint plane, row;
-
-  for (plane = 0; plane < GST_VIDEO_FRAME_N_PLANES (frame); plane++) {
-    gsize length = shared_row_bytes (&frame->info, plane);
-    gssize stride = GST_VIDEO_FRAME_PLANE_STRIDE (frame, plane);
-    guint8 *at = GST_VIDEO_FRAME_PLANE_DATA (frame, plane);
-
-    at += stride * (gssize) first;
-    for (row = 0; row < rows; row++) {
-      memcpy (into_frame ? at : packed, into_frame ? packed : at, length);
-      at += stride;
-      packed += length;
-    }
-  }
+  return (gsize) GST_VIDEO_FRAME_PLANE_STRIDE (frame, plane) *
+      (GST_VIDEO_FRAME_HEIGHT (frame) - 1) + shared_row_bytes (&frame->info, plane);
 }
 
-/* Whether a frame is a raw frame already: its planes one behind the other, rows without padding. */
+/* Whether the rows of each plane stand one below the other. */
 static gboolean
-is_raw (GstVideoFrame * frame)
+goes_down (const GstVideoFrame * frame)
 {
-  const guint8 *at = GST_VIDEO_FRAME_PLANE_DATA (frame, 0);
   guint plane;
 
-  for (plane = 0; plane < GST_VIDEO_FRAME_N_PLANES (frame); plane++) {
-    gsize length = shared_row_bytes (&frame->info, plane);
-
-    if (GST_VIDEO_FRAME_PLANE_DATA (frame, plane) != at ||
-        GST_VIDEO_FRAME_PLANE_STRIDE (frame, plane) != (gssize) length)
+  for (plane = 0; plane < GST_VIDEO_FRAME_N_PLANES (frame); plane++)
+    if (GST_VIDEO_FRAME_PLANE_STRIDE (frame, plane) < 0)
       return FALSE;
-    at += length * GST_VIDEO_FRAME_HEIGHT (frame);
-  }
   return TRUE;
-}
-
-/* Converts some rows, each side a raw frame of these rows. */
-static gboolean
-convert_rows (SwsConvert * self, guint width, guint first, guint rows,
-    const guint8 * source, guint8 * target)
-{
-  guint32 status = sws_run (&self->plan, first, width, rows,
-      source, self->source.row_bytes * rows,
-      target, self->target.row_bytes * rows);
-
-  if (status != SWS_OK)
-    GST_ELEMENT_ERROR (self, LIBRARY, FAILED, (NULL),
-        ("rows %u to %u: %s", first, first + rows - 1, sws_text (status)));
-  return status == SWS_OK;
 }
 
 static GstFlowReturn
@@ -373,24 +321,30 @@ sws_convert_transform_frame (GstVideoFilter * filter, GstVideoFrame * in,
     GstVideoFrame * out)
 {
   SwsConvert *self = SWS_CONVERT (filter);
-  guint width = GST_VIDEO_FRAME_WIDTH (in);
-  guint height = GST_VIDEO_FRAME_HEIGHT (in);
-  guint first, rows;
+  struct sws_source_planes source = { {NULL}, {0}, {0}, NULL };
+  struct sws_target_planes target = { {NULL}, {0}, {0} };
+  guint32 status = SWS_INPUT_LENGTH;
+  guint plane;
 
-  if (is_raw (in) && is_raw (out))
-    return convert_rows (self, width, 0, height,
-        GST_VIDEO_FRAME_PLANE_DATA (in, 0),
-        GST_VIDEO_FRAME_PLANE_DATA (out, 0)) ? GST_FLOW_OK : GST_FLOW_ERROR;
-
-  for (first = 0; first < height; first += rows) {
-    rows = MIN (SLICE_ROWS, height - first);
-    copy_rows (in, first, rows, self->source.bytes, FALSE);
-    if (!convert_rows (self, width, first, rows,
-            self->source.bytes, self->target.bytes))
-      return GST_FLOW_ERROR;
-    copy_rows (out, first, rows, self->target.bytes, TRUE);
+  if (goes_down (in) && goes_down (out)) {
+    for (plane = 0; plane < GST_VIDEO_FRAME_N_PLANES (in); plane++) {
+      source.bytes[plane] = GST_VIDEO_FRAME_PLANE_DATA (in, plane);
+      source.stride[plane] = GST_VIDEO_FRAME_PLANE_STRIDE (in, plane);
+      source.length[plane] = plane_length (in, plane);
+    }
+    for (plane = 0; plane < GST_VIDEO_FRAME_N_PLANES (out); plane++) {
+      target.bytes[plane] = GST_VIDEO_FRAME_PLANE_DATA (out, plane);
+      target.stride[plane] = GST_VIDEO_FRAME_PLANE_STRIDE (out, plane);
+      target.length[plane] = plane_length (out, plane);
+    }
+    status = sws_run_planes (&self->plan, 0, GST_VIDEO_FRAME_WIDTH (in),
+        GST_VIDEO_FRAME_HEIGHT (in), &source, &target);
   }
-  return GST_FLOW_OK;
+  if (status == SWS_OK)
+    return GST_FLOW_OK;
+  GST_ELEMENT_ERROR (self, LIBRARY, FAILED, (NULL),
+      ("a frame: %s", sws_text (status)));
+  return GST_FLOW_ERROR;
 }
 
 /* --- the element --- */
