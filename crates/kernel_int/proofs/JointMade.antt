@@ -14,8 +14,10 @@ use Rattle.op_range.specs.Width.{entries_denominator, rows_denominator, row_size
 use Rattle.op_range.proofs.Multiples.{multiple_right, entries_each, entries_positive, rows_each, rows_positive}
 use Rattle.kernel_int.specs.declared.form.Extent.{Extent}
 use Rattle.kernel_int.specs.declared.form.Form.{Form}
+use Rattle.kernel_int.specs.declared.form.NumberWidth.{NumberWidth}
 use Rattle.kernel_int.specs.Forms.{extent_at}
 use Rattle.kernel_int.specs.Joint.{extent_size, row_most, HasWidth, IsSmall, AreSame, MadeFits, IsMultiple, IsLimit, RowWithin}
+use Rattle.kernel_int.specs.Joint.{room}
 use Rattle.kernel_int.proofs.JointValues.{width_scaled, width_limited, width_dithered}
 
 -- ---- a denominator that divides the joint one
@@ -56,10 +58,10 @@ pub size_of_value : (d : ℕ) (f : ℕ → ℕ) (next : Width) (v : ℕ) → v <
 size_of_value d f next v below same = same.sizes v below ∙ get_or-four f v 0 below
 
 -- ---- Scale
-pub scale_fits : (by : ℚ) (v : ℕ) (old : Extent) (w next : Width) (e d : ℕ) → AreSame next (scaled_width by w) → IsSmall w → IsSmall next
+pub scale_fits : (number_width : NumberWidth) (by : ℚ) (v : ℕ) (old : Extent) (w next : Width) (e d : ℕ) → AreSame next (scaled_width by w) → IsSmall number_width w → IsSmall number_width next
     → v < 4
-    → HasWidth old w.denominator (size_in w v) → MadeFits (Scale by) v old e d
-scale_fits by v old w next e d same small next_small below has =
+    → HasWidth old w.denominator (size_in w v) → MadeFits number_width (Scale by) v old e d
+scale_fits number_width by v old w next e d same small next_small below has =
     let low = old_small old w.denominator (size_in w v) small.positive has in
     let size = size_of_value _ (λ i. size_in w i * unsigned_abs by.numerator) next v below same in
     record {
@@ -85,8 +87,8 @@ more_limited : (e a d s n : ℕ) (limit : Option ℚ) → a ≤ d → s ≤ n �
 more_limited e a d s n None low most = mul-le-mul_right e most
 more_limited e a d s n (Some x) low most = omega (arith, mul-le-mul_right e most, mul-le-mul_left (size_over e x) low)
 
-is_limit : (limits : List (Option ℚ)) (v : ℕ) → entries_denominator limits < 2 ^ 126 → IsLimit (entries_denominator limits) (entry limits v)
-is_limit limits v small = (entries_positive limits, small, each (entry limits v) refl)
+is_limit : (number_width : NumberWidth) (limits : List (Option ℚ)) (v : ℕ) → entries_denominator limits < room number_width → IsLimit number_width (entries_denominator limits) (entry limits v)
+is_limit number_width limits v small = (entries_positive limits, small, each (entry limits v) refl)
   where
     each : (limit : Option ℚ) → entry limits v ≡ limit
         → IfSome limit (λ x. entries_denominator limits / x.denominator * x.denominator ≡ entries_denominator limits)
@@ -94,16 +96,16 @@ is_limit limits v small = (entries_positive limits, small, each (entry limits v)
     each (Some x) h = div-mul_cancel x.denominator (entries_each limits v x h)
 
 -- what both need
-pub record LimitFits (limits : List (Option ℚ)) (v : ℕ) (old : Extent) : Type 0 where
+pub record LimitFits (number_width : NumberWidth) (limits : List (Option ℚ)) (v : ℕ) (old : Extent) : Type 0 where
   pub positive : pos 0 <ℤ old.denominator
-  pub denominator : unsigned_abs old.denominator * entries_denominator limits < 2 ^ 126
-  pub size : limited_size (entries_denominator limits) (unsigned_abs old.denominator) (entry limits v) (extent_size old) < 2 ^ 126
-  pub factors : IsLimit (entries_denominator limits) (entry limits v)
+  pub denominator : unsigned_abs old.denominator * entries_denominator limits < room number_width
+  pub size : limited_size (entries_denominator limits) (unsigned_abs old.denominator) (entry limits v) (extent_size old) < room number_width
+  pub factors : IsLimit number_width (entries_denominator limits) (entry limits v)
 
-pub limit_fits : (limits : List (Option ℚ)) (v : ℕ) (old : Extent) (w next : Width) → AreSame next (limited_width limits w) → IsSmall w
-    → IsSmall next → v < 4
-    → HasWidth old w.denominator (size_in w v) → LimitFits limits v old
-limit_fits limits v old w next same small next_small below has =
+pub limit_fits : (number_width : NumberWidth) (limits : List (Option ℚ)) (v : ℕ) (old : Extent) (w next : Width) → AreSame next (limited_width limits w) → IsSmall number_width w
+    → IsSmall number_width next → v < 4
+    → HasWidth old w.denominator (size_in w v) → LimitFits number_width limits v old
+limit_fits number_width limits v old w next same small next_small below has =
     let e = entries_denominator limits in
     let low = old_small old w.denominator (size_in w v) small.positive has in
     let size = size_of_value _ (λ i. limited_size e w.denominator (entry limits i) (size_in w i)) next v below same in
@@ -117,7 +119,7 @@ limit_fits limits v old w next same small next_small below has =
         size,
         next_small.sizes v below,
       );
-      factors = is_limit limits v (omega (arith, mul-le-mul_right e small.positive, same.denominator, next_small.denominator));
+      factors = is_limit number_width limits v (omega (arith, mul-le-mul_right e small.positive, same.denominator, next_small.denominator));
     }
 
 pub limit_width : (limits : List (Option ℚ)) (v : ℕ) (old new : Extent) (w next : Width) → AreSame next (limited_width limits w) → v < 4
@@ -147,10 +149,10 @@ dither_quotient : (old : Extent) (d size f : ℕ) → 0 < d * f → (has : HasWi
 dither_quotient old d size f some has = quotient_of (unsigned_abs old.denominator) (has.factor * f) (d * f) some
     (omega (arith, ap (λ x. x * f) has.over))
 
-pub dither_fits : (k v : ℕ) (old : Extent) (w next : Width) (e : ℕ) → k ≤ 4 → AreSame next (dithered_width k w) → IsSmall w → IsSmall next
+pub dither_fits : (number_width : NumberWidth) (k v : ℕ) (old : Extent) (w next : Width) (e : ℕ) → k ≤ 4 → AreSame next (dithered_width k w) → IsSmall number_width w → IsSmall number_width next
     → v < 4
-    → HasWidth old w.denominator (size_in w v) → MadeFits (Dither k) v old e next.denominator
-dither_fits k v old w next e few same small next_small below has =
+    → HasWidth old w.denominator (size_in w v) → MadeFits number_width (Dither k) v old e next.denominator
+dither_fits number_width k v old w next e few same small next_small below has =
     let p = 2 * 4 ^ k in
     let f = factor w.denominator p in
     let size = size_of_value _ (λ i. size_in w i * f + w.denominator * f) next v below same in
@@ -177,11 +179,11 @@ dither_fits k v old w next e few same small next_small below has =
       );
     }
 
-pub dither_width : (k v : ℕ) (old new : Extent) (w next : Width) → AreSame next (dithered_width k w) → IsSmall w → IsSmall next → v < 4
+pub dither_width : (number_width : NumberWidth) (k v : ℕ) (old new : Extent) (w next : Width) → AreSame next (dithered_width k w) → IsSmall number_width w → IsSmall number_width next → v < 4
     → HasWidth old w.denominator (size_in w v) → pos 0 <ℤ new.denominator → unsigned_abs new.denominator ≡ next.denominator
     → extent_size new ≤ extent_size old * (next.denominator / unsigned_abs old.denominator) + next.denominator
     → HasWidth new next.denominator (size_in next v)
-dither_width k v old new w next same small next_small below has positive is most =
+dither_width number_width k v old new w next same small next_small below has positive is most =
     let f = factor w.denominator (2 * 4 ^ k) in
     let size = size_of_value _ (λ i. size_in w i * f + w.denominator * f) next v below same in
     let some : 0 < w.denominator * f = omega (arith, same.denominator, next_small.positive) in
@@ -203,11 +205,11 @@ term_below e d size c old some has =
     at_most : (s q g n : ℕ) → q ≡ g → s * g ≤ n → s * q ≤ n
     at_most s q g n is h = omega (arith, ap (λ x. s * x) is, h)
 
-pub row_fits : (rows : List (List ℚ)) (v : ℕ) (before : Form) (w next : Width) → before.count ≡ 4 → AreSame next (mapped_width rows w)
-    → IsSmall w → IsSmall next → v < 4
+pub row_fits : (number_width : NumberWidth) (rows : List (List ℚ)) (v : ℕ) (before : Form) (w next : Width) → before.count ≡ 4 → AreSame next (mapped_width rows w)
+    → IsSmall number_width w → IsSmall number_width next → v < 4
     → ((j : ℕ) → j < 4 → HasWidth (extent_at before j) w.denominator (size_in w j))
-    → RowWithin (rows_denominator rows) w.denominator (row_of rows v) before
-row_fits rows v before w next count same small next_small below has =
+    → RowWithin number_width (rows_denominator rows) w.denominator (row_of rows v) before
+row_fits number_width rows v before w next count same small next_small below has =
     let e = rows_denominator rows in
     let row = row_of rows v in
     let size = size_of_value _ (λ i. row_size e (row_of rows i) w) next v below same in
@@ -231,13 +233,13 @@ row_fits rows v before w next count same small next_small below has =
       );
     }
 
-pub row_width : (rows : List (List ℚ)) (v : ℕ) (before : Form) (new : Extent) (w next : Width) → AreSame next (mapped_width rows w)
-    → IsSmall w → v < 4
+pub row_width : (number_width : NumberWidth) (rows : List (List ℚ)) (v : ℕ) (before : Form) (new : Extent) (w next : Width) → AreSame next (mapped_width rows w)
+    → IsSmall number_width w → v < 4
     → ((j : ℕ) → j < 4 → HasWidth (extent_at before j) w.denominator (size_in w j)) → pos 0 <ℤ new.denominator
     → unsigned_abs new.denominator ≡ w.denominator * rows_denominator rows
     → extent_size new ≤ row_most (rows_denominator rows) w.denominator (row_of rows v) before
     → HasWidth new next.denominator (size_in next v)
-row_width rows v before new w next same small below has positive is most =
+row_width number_width rows v before new w next same small below has positive is most =
     let e = rows_denominator rows in
     let row = row_of rows v in
     let size = size_of_value _ (λ i. row_size e (row_of rows i) w) next v below same in

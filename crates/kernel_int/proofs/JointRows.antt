@@ -2,7 +2,6 @@
 use Rattle.std.proofs.Common.{◌≡◌, ℕ, ◌+◌, ◌*◌, ◌/◌, ◌^◌, ◌<◌, ◌≤◌, ◌⊎◌, inl, inr, ⊎_elim, List, ℤ, pos, negsuc, ◌*ℤ◌}
 use Rattle.std.proofs.Common.{ap, ◌∙◌, arith}
 use Rattle.std.specs.Prelude.{unsigned_abs}
-use Rattle.std.specs.Int.{w128}
 use Rattle.std.proofs.Math.IntN.{pos-*ℤ-pos}
 use Rattle.std.proofs.Math.Nat.{mul-le-mul_right}
 use Rattle.std.proofs.lemmas.Int.{unsigned_abs-mul}
@@ -13,11 +12,14 @@ use Rattle.op_list.specs.Values.{fraction_in}
 use Rattle.op_range.specs.Width.{size_over}
 use Rattle.kernel_int.specs.declared.form.Extent.{Extent}
 use Rattle.kernel_int.specs.declared.form.Form.{Form}
+use Rattle.kernel_int.specs.declared.form.NumberWidth.{NumberWidth}
 use Rattle.kernel_int.specs.Rules.{with_product, row_sum}
-use Rattle.kernel_int.specs.Forms.{IsTerm, IsRow, IsInside, extent_at, factor}
+use Rattle.kernel_int.specs.Forms.{IsTerm, IsRow, IsInside, extent_at, factor, width_of}
 use Rattle.kernel_int.specs.Joint.{extent_size, IsAround, IsFactorOf, IsMultiple, RowWithin, term_most, row_most, row_total, part}
+use Rattle.kernel_int.specs.Joint.{room}
 use Rattle.kernel_int.proofs.Intervals.{four_cases, five_cases}
-use Rattle.kernel_int.proofs.JointValues.{abs_sum, product_size, small_fits, around_size}
+use Rattle.kernel_int.proofs.JointValues.{abs_sum, product_size, around_size}
+use Rattle.kernel_int.proofs.Rooms.{small_fits, below_most}
 
 -- ---- a factor: q is e over the denominator of the coefficient, and g is d over a, the old denominator
 pub term_value : (c k : ℤ) (q g a n d e : ℕ) → k ≡ c *ℤ pos (q * g) → q * n ≡ e → g * a ≡ d → k *ℤ pos (a * n) ≡ c *ℤ pos (d * e)
@@ -28,18 +30,11 @@ term_value c k q g a n d e is whole over =
 pub term_size : (c k : ℤ) (q g s : ℕ) → k ≡ c *ℤ pos (q * g) → unsigned_abs k * s ≡ unsigned_abs c * q * (s * g)
 term_size c k q g s is = ap (λ n. n * s) (ap unsigned_abs is ∙ unsigned_abs-mul c (pos (q * g))) ∙ omega arith
 
-pub times_small : (c q s g : ℕ) → 0 < c → 0 < s → c * q * (s * g) < 2 ^ 126 → q * g < 2 ^ 126
-times_small c q s g some there small = omega (arith, small, mul-le-mul_right (q * g) (product_positive c s some there))
+pub times_small : (c q s g most : ℕ) → 0 < c → 0 < s → c * q * (s * g) < most → q * g < most
+times_small c q s g most some there small = omega (arith, small, mul-le-mul_right (q * g) (product_positive c s some there))
 
-pub product_small : (c q s g : ℕ) → 0 < s → c * q * (s * g) < 2 ^ 126 → c * (q * g) < 2 ^ 126
-product_small c q s g there small = omega (arith, small, mul-le-mul_right (c * (q * g)) there)
-
-pub nothing_there : (old : Extent) → extent_size old ≡ 0 → (old.least ≡ pos 0) × (old.greatest ≡ pos 0)
-nothing_there old h = (none old.least (omega (arith, h)), none old.greatest (omega (arith, h)))
-  where
-    none : (z : ℤ) → unsigned_abs z ≡ 0 → z ≡ pos 0
-    none (pos n) h = ap pos h
-    none (negsuc n) h = absurd (omega (arith, h))
+pub product_small : (c q s g most : ℕ) → 0 < s → c * q * (s * g) < most → c * (q * g) < most
+product_small c q s g most there small = omega (arith, small, mul-le-mul_right (c * (q * g)) there)
 
 pub term_of : (before : Form) (j : ℕ) (c : ℚ) (k : ℤ) (d : ℕ) → before.count ≡ 4 → j < 4 → IsFactorOf (extent_at before j) c k d
     → IsTerm before c k d j
@@ -62,14 +57,14 @@ next_size : (s k n : ℤ) (m t : ℕ) → unsigned_abs s ≤ m → unsigned_abs 
 unfolding with_product
 next_size s k n m t sum product = omega (arith, abs_sum s (k *ℤ n), sum, product)
 
-pub row_is : (before : Form) (row : List ℚ) (factors : List ℤ) (new : Extent) (d size : ℕ) → before.count ≡ 4 → 0 < d → IsAround new d size
-    → size < 2 ^ 126
+pub row_is : (number_width : NumberWidth) (before : Form) (row : List ℚ) (factors : List ℤ) (new : Extent) (d size : ℕ) → before.count ≡ 4 → 0 < d → IsAround new d size
+    → size < room number_width
     → ((j : ℕ) → j < 4 → IsTerm before (fraction_in row j) (factor factors j) d j)
     → factor factors 4 *ℤ pos (fraction_in row 4).denominator ≡ (fraction_in row 4).numerator *ℤ pos d
-    → ((j : ℕ) → j < 5 → unsigned_abs (factor factors j) < 2 ^ 126)
+    → ((j : ℕ) → j < 5 → unsigned_abs (factor factors j) < room number_width)
     → row_total before factors ≤ size
-    → IsRow w128 before row factors new
-row_is before row factors new d size count some around small terms constant entries total =
+    → IsRow (width_of number_width) before row factors new
+row_is number_width before row factors new d size count some around small terms constant entries total =
     let same = around_size new d size around in
     let product : (numbers : ℕ → ℤ) → IsInside before numbers → (j : ℕ) → j < 4
     → unsigned_abs (factor factors j *ℤ numbers j) ≤ part before factors j =
@@ -90,14 +85,14 @@ row_is before row factors new d size count some around small terms constant entr
       positive = omega (arith, same, some);
       terms = λ j below. rw same (terms j below);
       constant = rw same constant;
-      entries = λ j below. small_fits (factor factors j) (unsigned_abs (factor factors j)) (omega arith) (entries j below);
+      entries = λ j below. small_fits number_width (factor factors j) (unsigned_abs (factor factors j)) (omega arith) (entries j below);
       fits = λ numbers inside. record {
-        products = λ j below. small_fits (factor factors j *ℤ numbers j) size
+        products = λ j below. small_fits number_width (factor factors j *ℤ numbers j) size
             (four_cases (λ t. unsigned_abs (factor factors t *ℤ numbers t) ≤ size) j below
             (omega (arith, total, product numbers inside 0 (omega arith))) (omega (arith, total, product numbers inside 1 (omega arith)))
             (omega (arith, total, product numbers inside 2 (omega arith))) (omega (arith, total, product numbers inside 3 (omega arith))))
             small;
-        sums = λ j below. small_fits (row_sum factors numbers j) size
+        sums = λ j below. small_fits number_width (row_sum factors numbers j) size
             (five_cases (λ t. unsigned_abs (row_sum factors numbers t) ≤ size) j below
             (omega (arith, total)) (omega (arith, total, one numbers inside)) (omega (arith, total, two numbers inside))
             (omega (arith, total, three numbers inside)) (omega (arith, total, four numbers inside))) small;
@@ -117,14 +112,19 @@ total_below before factors e d row constant parts =
     omega (arith, constant, parts 0 (omega arith), parts 1 (omega arith), parts 2 (omega arith), parts 3 (omega arith))
 
 -- what is asked of the factor of value j
-pub term_within : (e d : ℕ) (row : List ℚ) (before : Form) (j : ℕ) → RowWithin e d row before → j < 4
-    → term_most e d (fraction_in row j) (extent_at before j) < 2 ^ 126
-term_within e d row before j within below =
-    four_cases (λ t. term_most e d (fraction_in row t) (extent_at before t) < 2 ^ 126) j below
+pub term_within : (number_width : NumberWidth) (e d : ℕ) (row : List ℚ) (before : Form) (j : ℕ) → RowWithin number_width e d row before → j < 4
+    → term_most e d (fraction_in row j) (extent_at before j) < room number_width
+term_within number_width e d row before j within below =
+    four_cases (λ t. term_most e d (fraction_in row t) (extent_at before t) < room number_width) j below
     (omega (arith, within.most)) (omega (arith, within.most)) (omega (arith, within.most)) (omega (arith, within.most))
 
-pub constant_within : (e d : ℕ) (row : List ℚ) (before : Form) → RowWithin e d row before → size_over e (fraction_in row 4) * d < 2 ^ 126
-constant_within e d row before within = omega (arith, within.most)
+pub constant_within : (number_width : NumberWidth) (e d : ℕ) (row : List ℚ) (before : Form) → RowWithin number_width e d row before → size_over e (fraction_in row 4) * d < room number_width
+constant_within number_width e d row before within = omega (arith, within.most)
+
+pub constant_below : (number_width : NumberWidth) (e d : ℕ) (row : List ℚ) (before : Form) → RowWithin number_width e d row before
+    → size_over e (fraction_in row 4) * d < 2 ^ 126
+constant_below number_width e d row before within =
+    below_most number_width (size_over e (fraction_in row 4) * d) (constant_within number_width e d row before within)
 
 -- ---- what a factor that is not 0 gives
 pub factor_term : (old : Extent) (c : ℚ) (k : ℤ) (e d : ℕ) → IsMultiple e c.denominator → IsMultiple d (unsigned_abs old.denominator)
@@ -141,10 +141,12 @@ factor_size old c k e d is = omega (
       (extent_size old) is,
 )
 
-pub factor_times : (old : Extent) (c : ℚ) (e d : ℕ) → 0 < unsigned_abs c.numerator → 0 < extent_size old → term_most e d c old < 2 ^ 126
-    → (e / c.denominator * (d / unsigned_abs old.denominator) < 2 ^ 126)
-    × (unsigned_abs c.numerator * (e / c.denominator * (d / unsigned_abs old.denominator)) < 2 ^ 126)
-factor_times old c e d some there small = (
-  times_small (unsigned_abs c.numerator) (e / c.denominator) (extent_size old) (d / unsigned_abs old.denominator) some there small,
-  product_small (unsigned_abs c.numerator) (e / c.denominator) (extent_size old) (d / unsigned_abs old.denominator) there small,
+pub factor_times : (number_width : NumberWidth) (old : Extent) (c : ℚ) (e d : ℕ) → 0 < unsigned_abs c.numerator → 0 < extent_size old → term_most e d c old < room number_width
+    → (e / c.denominator * (d / unsigned_abs old.denominator) < room number_width)
+    × (unsigned_abs c.numerator * (e / c.denominator * (d / unsigned_abs old.denominator)) < room number_width)
+factor_times number_width old c e d some there small = (
+  times_small (unsigned_abs c.numerator) (e / c.denominator) (extent_size old) (d / unsigned_abs old.denominator)
+      (room number_width) some there small,
+  product_small (unsigned_abs c.numerator) (e / c.denominator) (extent_size old) (d / unsigned_abs old.denominator)
+      (room number_width) there small,
 )

@@ -1,7 +1,6 @@
 -- One operation, within the width of a list.
 use Rattle.std.proofs.Common.{◌≡◌, ℕ, Bool, inl, ◌-◌, ◌^◌, ◌<◌, ◌≤◌, true, false, List, ℤ, pos, refl, sym, ap, arith, subst}
-use Rattle.std.specs.Prelude.{Option, Some, None, All, if◌then◌else◌, ◌<ℤ◌, unsigned_abs, slice_index, FitsSigned}
-use Rattle.std.specs.Int.{w128}
+use Rattle.std.specs.Prelude.{Option, Some, None, IfSome, All, if◌then◌else◌, ◌<ℤ◌, unsigned_abs, slice_index, FitsSigned}
 use Rattle.std.proofs.lemmas.Int.{ints}
 use Rattle.frac_math.specs.Fraction.{ℚ}
 use Rattle.op_list.specs.declared.types.PixType.{PixType}
@@ -20,11 +19,13 @@ use Rattle.op_range.specs.declared.width.Width.{Width}
 use Rattle.op_range.specs.Width.{size_in, width_after, fractions_width, whole_width}
 use Rattle.kernel_int.specs.declared.form.Extent.{Extent}
 use Rattle.kernel_int.specs.declared.form.Form.{Form}
+use Rattle.kernel_int.specs.declared.form.NumberWidth.{NumberWidth}
 use Rattle.kernel_int.specs.Forms.{AreKept, IsCleared, IsMoved, IsNarrowed, IsStep, IsWidened, extent_at, factor, factors_at}
-use Rattle.kernel_int.specs.Joint.{AreSame, HasWidth, IsGiven, IsJoint, IsJointStep, extent_size}
-use Rattle.kernel_int.proofs.JointClears.{clear_width}
+use Rattle.kernel_int.specs.Forms.{width_of}
+use Rattle.kernel_int.specs.Joint.{AreSame, HasWidth, IsGiven, IsJoint, IsJointStep, extent_size, room}
+use Rattle.kernel_int.proofs.JointClears.{clear_width, entry_small}
 use Rattle.kernel_int.proofs.JointMade.{width_same, size_of_value, old_small}
-use Rattle.kernel_int.proofs.JointValues.{small_fits}
+use Rattle.kernel_int.proofs.Rooms.{small_fits}
 
 -- ---- kinds of stages
 pub not_wide : (stage : Stage) → is_wide stage ≡ true → is_rational stage ≡ false
@@ -75,73 +76,87 @@ positive_denominator new n is some = rw is (above n some)
     above n h = omega (arith, ints, h)
 
 -- ---- operations on whole numbers
-whole_step : (bits : ℕ) (op : Op) (stage : Stage) (before after : Form) (next : Width) → is_rational (stage_after stage op) ≡ false
-    → after.count ≡ 4 → IsStep bits w128 stage before op after → IsJointStep bits stage before op after next
-whole_step bits op stage before after next kind count step =
+whole_step : (number_width : NumberWidth) (bits : ℕ) (op : Op) (stage : Stage) (before after : Form) (next : Width) → is_rational (stage_after stage op) ≡ false
+    → after.count ≡ 4 → IsStep bits (width_of number_width) stage before op after → IsJointStep number_width bits stage before op after next
+whole_step number_width bits op stage before after next kind count step =
     record { few = omega (arith, count); step = step; joint = whole_joint (stage_after stage op) after next kind count }
 
-pub swap_bytes_step : (bits : ℕ) (stage : Stage) (before after : Form) (w next : Width)
-    → IsGiven stage SwapBytes before w next → after.count ≡ 4 → IsJointStep bits stage before SwapBytes after next
+pub swap_bytes_step : (number_width : NumberWidth) (bits : ℕ) (stage : Stage) (before after : Form) (w next : Width)
+    → IsGiven number_width stage SwapBytes before w next → after.count ≡ 4 → IsJointStep number_width bits stage before SwapBytes after next
 unfolding may_follow stage_after
-swap_bytes_step bits stage before after w next given count =
-    whole_step bits SwapBytes stage before after next (not_wide stage given.follows) count (omega (arith, count, given.joint.count))
+swap_bytes_step number_width bits stage before after w next given count =
+    whole_step number_width bits SwapBytes stage before after next (not_wide stage given.follows) count (omega (arith, count, given.joint.count))
 
-pub unpack_step : (bits : ℕ) (widths : List ℕ) (stage : Stage) (before after : Form) (w next : Width)
-    → IsGiven stage (Unpack widths) before w next → after.count ≡ 4 → IsJointStep bits stage before (Unpack widths) after next
+pub unpack_step : (number_width : NumberWidth) (bits : ℕ) (widths : List ℕ) (stage : Stage) (before after : Form) (w next : Width)
+    → IsGiven number_width stage (Unpack widths) before w next → after.count ≡ 4 → IsJointStep number_width bits stage before (Unpack widths) after next
 unfolding may_follow stage_after
-unpack_step bits widths stage before after w next given count =
-    whole_step bits (Unpack widths) stage before after next (not_whole stage given.follows) count (omega (arith, given.joint.count))
+unpack_step number_width bits widths stage before after w next given count =
+    whole_step number_width bits (Unpack widths) stage before after next (not_whole stage given.follows) count (omega (arith, given.joint.count))
 
-pub pack_step : (bits : ℕ) (widths : List ℕ) (stage : Stage) (before after : Form) (w next : Width)
-    → IsGiven stage (Pack widths) before w next → after.count ≡ 4 → IsJointStep bits stage before (Pack widths) after next
+pub pack_step : (number_width : NumberWidth) (bits : ℕ) (widths : List ℕ) (stage : Stage) (before after : Form) (w next : Width)
+    → IsGiven number_width stage (Pack widths) before w next → after.count ≡ 4 → IsJointStep number_width bits stage before (Pack widths) after next
 unfolding may_follow stage_after
-pack_step bits widths stage before after w next given count =
-    whole_step bits (Pack widths) stage before after next (not_whole stage given.follows) count
+pack_step number_width bits widths stage before after w next given count =
+    whole_step number_width bits (Pack widths) stage before after next (not_whole stage given.follows) count
     (λ j below. inl (omega (arith, below, given.joint.count)))
 
-pub left_shift_step : (bits n : ℕ) (stage : Stage) (before after : Form) (w next : Width)
-    → IsGiven stage (LeftShift n) before w next → after.count ≡ 4 → IsJointStep bits stage before (LeftShift n) after next
+pub left_shift_step : (number_width : NumberWidth) (bits n : ℕ) (stage : Stage) (before after : Form) (w next : Width)
+    → IsGiven number_width stage (LeftShift n) before w next → after.count ≡ 4 → IsJointStep number_width bits stage before (LeftShift n) after next
 unfolding may_follow stage_after
-left_shift_step bits n stage before after w next given count =
-    whole_step bits (LeftShift n) stage before after next (not_whole stage given.follows) count (omega (arith, count, given.joint.count))
+left_shift_step number_width bits n stage before after w next given count =
+    whole_step number_width bits (LeftShift n) stage before after next (not_whole stage given.follows) count (omega (arith, count, given.joint.count))
 
-pub right_shift_step : (bits n : ℕ) (stage : Stage) (before after : Form) (w next : Width)
-    → IsGiven stage (RightShift n) before w next → after.count ≡ 4 → IsJointStep bits stage before (RightShift n) after next
+pub right_shift_step : (number_width : NumberWidth) (bits n : ℕ) (stage : Stage) (before after : Form) (w next : Width)
+    → IsGiven number_width stage (RightShift n) before w next → after.count ≡ 4 → IsJointStep number_width bits stage before (RightShift n) after next
 unfolding may_follow stage_after
-right_shift_step bits n stage before after w next given count =
-    whole_step bits (RightShift n) stage before after next (not_whole stage given.follows) count (omega (arith, count, given.joint.count))
+right_shift_step number_width bits n stage before after w next given count =
+    whole_step number_width bits (RightShift n) stage before after next (not_whole stage given.follows) count (omega (arith, count, given.joint.count))
 
 -- ---- Clear and Swizzle
-cleared_any : (rational : Bool) (before : Form) (v : ℕ) (given : Option ℚ) (k : ℤ) (new : Extent) → IsCleared w128 true before v given k new
-    → IsCleared w128 rational before v given k new
-cleared_any rational before v None k new is = is
-cleared_any rational before v (Some x) k new is = λ h. is refl
+pub cleared_any : (number_width : NumberWidth) (rational : Bool) (before : Form) (v : ℕ) (given : Option ℚ) (k : ℤ) (new : Extent) → IsCleared (width_of number_width) true before v given k new
+    → IsCleared (width_of number_width) rational before v given k new
+cleared_any number_width rational before v None k new is = is
+cleared_any number_width rational before v (Some x) k new is = λ h. is refl
 
-pub clear_step : (bits : ℕ) (entries : List (Option ℚ)) (stage : Stage) (before after : Form) (w next : Width)
-    → IsGiven stage (Clear entries) before w next → after.count ≡ 4
-    → ((v : ℕ) → v < 4 → IsCleared w128 true before v (entry entries v) (factor (factors_at after v) 0) (extent_at after v))
-    → IsJointStep bits stage before (Clear entries) after next
+pub cleared_kept : (number_width : NumberWidth) (before after : Form) (v : ℕ) (given : Option ℚ) (k : ℤ) → v < before.count
+    → extent_at after v ≡ extent_at before v → IsCleared (width_of number_width) false before v given k (extent_at after v)
+cleared_kept number_width before after v None k there same = (there, same)
+cleared_kept number_width before after v (Some x) k there same = λ rational. absurd (cc rational)
+
+pub clear_entries : (number_width : NumberWidth) (entries : List (Option ℚ)) (stage : Stage) (before : Form) (w next : Width)
+    → IsGiven number_width stage (Clear entries) before w next → is_rational stage ≡ true → (v : ℕ) → v < 4
+    → IfSome (entry entries v) (λ x. unsigned_abs x.numerator < room number_width)
+unfolding fractions_width
+clear_entries number_width entries stage before w next given kind = entry_small number_width entries w next given.small given.next_small
+    (same_fractions stage (Clear entries) w next kind given.same)
+
+pub clear_step : (number_width : NumberWidth) (bits : ℕ) (entries : List (Option ℚ)) (stage : Stage) (before after : Form) (w next : Width)
+    → IsGiven number_width stage (Clear entries) before w next → after.count ≡ 4
+    → ((v : ℕ) → v < 4 → IsCleared (width_of number_width) (is_rational stage) before v (entry entries v) (factor (factors_at after v) 0)
+    (extent_at after v))
+    → IsJointStep number_width bits stage before (Clear entries) after next
 unfolding stage_after fractions_width
-clear_step bits entries stage before after w next given count cleared = record {
+clear_step number_width bits entries stage before after w next given count cleared = record {
   few = omega (arith, count);
-  step = λ v below. cleared_any (is_rational stage) before v (entry entries v) (factor (factors_at after v) 0) (extent_at after v)
-      (cleared v (omega (arith, below, count)));
+  step = λ v below. cleared v (omega (arith, below, count));
   joint = record {
     count = count;
-    extents = λ kind v below. clear_width entries v before (factor (factors_at after v) 0) (extent_at after v) w next
-        (same_fractions stage (Clear entries) w next kind given.same) below (given.joint.extents kind v below) (cleared v below);
+    extents = λ kind v below. clear_width number_width entries v before (factor (factors_at after v) 0) (extent_at after v) w next
+        (same_fractions stage (Clear entries) w next kind given.same) below (given.joint.extents kind v below)
+        (subst (λ (b : Bool). IsCleared (width_of number_width) b before v (entry entries v) (factor (factors_at after v) 0)
+        (extent_at after v)) kind (cleared v below));
   };
 }
 
-pub swizzle_from : (from : List ℕ) (stage : Stage) (before : Form) (w next : Width) → IsGiven stage (Swizzle from) before w next
+pub swizzle_from : (number_width : NumberWidth) (from : List ℕ) (stage : Stage) (before : Form) (w next : Width) → IsGiven number_width stage (Swizzle from) before w next
     → All (λ i. i < 4) from
-swizzle_from from stage before w next given = swizzle_lanes stage from given.good
+swizzle_from number_width from stage before w next given = swizzle_lanes stage from given.good
 
-pub swizzle_step : (bits : ℕ) (from : List ℕ) (stage : Stage) (before after : Form) (w next : Width)
-    → IsGiven stage (Swizzle from) before w next → after.count ≡ 4
-    → ((v : ℕ) → v < 4 → IsMoved before (slice_index from v) after v) → IsJointStep bits stage before (Swizzle from) after next
+pub swizzle_step : (number_width : NumberWidth) (bits : ℕ) (from : List ℕ) (stage : Stage) (before after : Form) (w next : Width)
+    → IsGiven number_width stage (Swizzle from) before w next → after.count ≡ 4
+    → ((v : ℕ) → v < 4 → IsMoved before (slice_index from v) after v) → IsJointStep number_width bits stage before (Swizzle from) after next
 unfolding stage_after fractions_width
-swizzle_step bits from stage before after w next given count moved = record {
+swizzle_step number_width bits from stage before after w next given count moved = record {
   few = omega (arith, count);
   step = λ v below. moved v (omega (arith, below, count));
   joint = record { count = count; extents = each };
@@ -154,37 +169,45 @@ swizzle_step bits from stage before after w next given count moved = record {
         let size = size_of_value _ (λ i. size_in w (slice_index from i)) next v below same in
         rw (moved v below).same
         (width_same (extent_at before u) w.denominator next.denominator (size_in w u) (size_in next v)
-        (given.joint.extents kind u (index_below from (swizzle_from from stage before w next given) v)) (sym same.denominator) (sym size))
+        (given.joint.extents kind u (index_below from (swizzle_from number_width from stage before w next given) v)) (sym same.denominator) (sym size))
 
 -- ---- Convert
 -- each denominator fits
-denominator_fits : (old : Extent) (d size : ℕ) → 0 < d → d < 2 ^ 126 → HasWidth old d size → FitsSigned w128 old.denominator
-denominator_fits old d size some small has = small_fits old.denominator (unsigned_abs old.denominator) (omega arith)
+denominator_fits : (number_width : NumberWidth) (old : Extent) (d size : ℕ) → 0 < d → d < room number_width → HasWidth old d size → FitsSigned (width_of number_width) old.denominator
+denominator_fits number_width old d size some small has = small_fits number_width old.denominator (unsigned_abs old.denominator) (omega arith)
     (omega (arith, (old_small old d size some has).0, small))
 
-pub divisors_fit : (to : PixType) (expand : Bool) (stage : Stage) (before : Form) (w next : Width)
-    → IsGiven stage (Convert to expand) before w next → is_rational stage ≡ true → (v : ℕ) → v < 4
-    → (pos 0 <ℤ (extent_at before v).denominator) × FitsSigned w128 (extent_at before v).denominator
-divisors_fit to expand stage before w next given kind v below =
+pub divisors_fit : (number_width : NumberWidth) (to : PixType) (expand : Bool) (stage : Stage) (before : Form) (w next : Width)
+    → IsGiven number_width stage (Convert to expand) before w next → is_rational stage ≡ true → (v : ℕ) → v < 4
+    → (pos 0 <ℤ (extent_at before v).denominator) × FitsSigned (width_of number_width) (extent_at before v).denominator
+divisors_fit number_width to expand stage before w next given kind v below =
     let has = given.joint.extents kind v below in
-    (has.positive, denominator_fits (extent_at before v) w.denominator (size_in w v) given.small.positive given.small.denominator has)
+    (has.positive, denominator_fits number_width (extent_at before v) w.denominator (size_in w v) given.small.positive given.small.denominator has)
+
+-- whole numbers that become fractions have small numerators
+pub widened_small : (number_width : NumberWidth) (to : PixType) (expand : Bool) (stage : Stage) (before : Form) (w next : Width)
+    → IsGiven number_width stage (Convert to expand) before w next → is_rational stage ≡ false → 2 ^ bits_at stage ≤ room number_width
+widened_small number_width to expand stage before w next given kind =
+    let same = same_numbers stage (Convert to expand) w next kind given.same in
+    let size = size_of_value 1 (λ i. 2 ^ bits_at stage - 1) next 0 (omega arith) same in
+    omega (arith, size, given.next_small.sizes 0 (omega arith))
 
 -- fractions that stay fractions
-kept_width : (expand : Bool) (stage : Stage) (before after : Form) (w next : Width) → is_rational stage ≡ true
-    → IsGiven stage (Convert Rat expand) before w next → after.count ≡ 4 → AreKept before after → (v : ℕ) → v < 4
+kept_width : (number_width : NumberWidth) (expand : Bool) (stage : Stage) (before after : Form) (w next : Width) → is_rational stage ≡ true
+    → IsGiven number_width stage (Convert Rat expand) before w next → after.count ≡ 4 → AreKept before after → (v : ℕ) → v < 4
     → HasWidth (extent_at after v) next.denominator (size_in next v)
 unfolding fractions_width
-kept_width expand stage before after w next kind given count kept v below =
+kept_width number_width expand stage before after w next kind given count kept v below =
     let same = same_fractions stage (Convert Rat expand) w next kind given.same in
     rw (kept v (omega (arith, below, count))).same
     (width_same (extent_at before v) w.denominator next.denominator (size_in w v) (size_in next v)
     (given.joint.extents kind v below) (sym same.denominator) (sym (same.sizes v below)))
 
 -- whole numbers that become fractions
-widened_width : (expand : Bool) (stage : Stage) (before after : Form) (w next : Width) → is_rational stage ≡ false
-    → IsGiven stage (Convert Rat expand) before w next → (v : ℕ) → v < 4 → IsWidened w128 (2 ^ bits_at stage) (extent_at after v)
+widened_width : (number_width : NumberWidth) (expand : Bool) (stage : Stage) (before after : Form) (w next : Width) → is_rational stage ≡ false
+    → IsGiven number_width stage (Convert Rat expand) before w next → (v : ℕ) → v < 4 → IsWidened (width_of number_width) (2 ^ bits_at stage) (extent_at after v)
     → extent_size (extent_at after v) ≡ 2 ^ bits_at stage - 1 → HasWidth (extent_at after v) next.denominator (size_in next v)
-widened_width expand stage before after w next kind given v below widened sized =
+widened_width number_width expand stage before after w next kind given v below widened sized =
     let same = same_numbers stage (Convert Rat expand) w next kind given.same in
     let size = size_of_value 1 (λ i. 2 ^ bits_at stage - 1) next v below same in
     record {
@@ -195,32 +218,32 @@ widened_width expand stage before after w next kind given v below widened sized 
     }
 
 -- what a Convert does to a form
-pub record IsRetyped (stage : Stage) (to : PixType) (before after : Form) : Type 0 where
+pub record IsRetyped (number_width : NumberWidth) (stage : Stage) (to : PixType) (before after : Form) : Type 0 where
   pub count : after.count ≡ 4
   pub kept : is_rational stage ≡ true → is_whole_type to ≡ false → AreKept before after
-  pub narrowed : is_rational stage ≡ true → is_whole_type to ≡ true → (bits v : ℕ) → v < 4 → IsNarrowed w128 bits before after v
+  pub narrowed : is_rational stage ≡ true → is_whole_type to ≡ true → (bits v : ℕ) → v < 4 → IsNarrowed (width_of number_width) bits before after v
   pub widened : is_rational stage ≡ false → is_whole_type to ≡ false → (v : ℕ) → v < 4
-      → IsWidened w128 (2 ^ bits_at stage) (extent_at after v) × (extent_size (extent_at after v) ≡ 2 ^ bits_at stage - 1)
+      → IsWidened (width_of number_width) (2 ^ bits_at stage) (extent_at after v) × (extent_size (extent_at after v) ≡ 2 ^ bits_at stage - 1)
 
-retyped_width : (to : PixType) (expand : Bool) (stage : Stage) (before after : Form) (w next : Width)
-    → IsGiven stage (Convert to expand) before w next → IsRetyped stage to before after → is_rational (Typed to) ≡ true
+retyped_width : (number_width : NumberWidth) (to : PixType) (expand : Bool) (stage : Stage) (before after : Form) (w next : Width)
+    → IsGiven number_width stage (Convert to expand) before w next → IsRetyped number_width stage to before after → is_rational (Typed to) ≡ true
     → (v : ℕ) → v < 4 → HasWidth (extent_at after v) next.denominator (size_in next v)
-retyped_width U8 expand stage before after w next given retyped to v below = absurd (cc to)
-retyped_width U16 expand stage before after w next given retyped to v below = absurd (cc to)
-retyped_width U32 expand stage before after w next given retyped to v below = absurd (cc to)
-retyped_width Rat expand stage before after w next given retyped to v below = either (is_rational stage) refl
+retyped_width number_width U8 expand stage before after w next given retyped to v below = absurd (cc to)
+retyped_width number_width U16 expand stage before after w next given retyped to v below = absurd (cc to)
+retyped_width number_width U32 expand stage before after w next given retyped to v below = absurd (cc to)
+retyped_width number_width Rat expand stage before after w next given retyped to v below = either (is_rational stage) refl
   where
     either : (b : Bool) → is_rational stage ≡ b → HasWidth (extent_at after v) next.denominator (size_in next v)
-    either true kind = kept_width expand stage before after w next kind given retyped.count (retyped.kept kind refl) v below
+    either true kind = kept_width number_width expand stage before after w next kind given retyped.count (retyped.kept kind refl) v below
     either false kind =
         let widened = retyped.widened kind refl v below in
-        widened_width expand stage before after w next kind given v below widened.0 widened.1
+        widened_width number_width expand stage before after w next kind given v below widened.0 widened.1
 
-pub convert_step : (bits : ℕ) (to : PixType) (expand : Bool) (stage : Stage) (before after : Form) (w next : Width)
-    → IsGiven stage (Convert to expand) before w next → IsRetyped stage to before after
-    → 2 ^ bits_at (stage_after stage (Convert to expand)) ≤ 2 ^ bits → IsJointStep bits stage before (Convert to expand) after next
+pub convert_step : (number_width : NumberWidth) (bits : ℕ) (to : PixType) (expand : Bool) (stage : Stage) (before after : Form) (w next : Width)
+    → IsGiven number_width stage (Convert to expand) before w next → IsRetyped number_width stage to before after
+    → 2 ^ bits_at (stage_after stage (Convert to expand)) ≤ 2 ^ bits → IsJointStep number_width bits stage before (Convert to expand) after next
 unfolding stage_after
-convert_step bits to expand stage before after w next given retyped stored = record {
+convert_step number_width bits to expand stage before after w next given retyped stored = record {
   few = omega (arith, retyped.count);
   step = record {
     there = omega (arith, retyped.count, given.joint.count);
@@ -234,5 +257,5 @@ convert_step bits to expand stage before after w next given retyped stored = rec
     narrowed = λ kind whole. (kind, stored, λ v below. retyped.narrowed kind whole (type_bits to) v (omega (arith, below, retyped.count)));
     same = retyped.kept;
   };
-  joint = record { count = retyped.count; extents = retyped_width to expand stage before after w next given retyped };
+  joint = record { count = retyped.count; extents = retyped_width number_width to expand stage before after w next given retyped };
 }

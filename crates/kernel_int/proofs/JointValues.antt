@@ -1,5 +1,5 @@
 -- Each value made from that value alone, within the width of a list.
-use Rattle.std.proofs.Common.{◌≡◌, ℕ, zero, suc, ◌+◌, ◌*◌, ◌/◌, ◌^◌, ◌<◌, ◌≤◌, max, inl, ⊎_elim, ℤ, pos, negsuc, ◌*ℤ◌, ◌+ℤ◌, refl, sym}
+use Rattle.std.proofs.Common.{◌≡◌, ℕ, zero, suc, ◌+◌, ◌*◌, ◌/◌, ◌^◌, ◌<◌, ◌≤◌, max, inl, inr, ⊎_elim, ℤ, pos, negsuc, ◌*ℤ◌, ◌+ℤ◌, refl, sym}
 use Rattle.std.proofs.Common.{ap, ◌∙◌, arith, subst, FitsSigned, to_z, of_z}
 use Rattle.std.specs.Prelude.{◌≤ℤ◌, ◌<ℤ◌, unsigned_abs}
 use Rattle.std.specs.Int.{w128}
@@ -12,10 +12,13 @@ use Rattle.frac_math.specs.Fraction.{ℚ, nat}
 use Rattle.frac_math.proofs.Integers.{mul_assoc_ℤ}
 use Rattle.frac_math.proofs.FractionRing.{denominator_positive, product_positive}
 use Rattle.kernel_int.specs.declared.form.Extent.{Extent}
-use Rattle.kernel_int.specs.ValueSteps.{IsIn, IsFactor, IsScaled, IsMinimum, IsMaximum, IsDithered}
+use Rattle.kernel_int.specs.declared.form.NumberWidth.{NumberWidth}
+use Rattle.kernel_int.specs.Forms.{width_of}
+use Rattle.kernel_int.specs.ValueSteps.{IsIn, IsFactor, IsScaled, IsScaling, IsMinimum, IsMaximum, IsDithered}
 use Rattle.kernel_int.specs.ValueSteps.{IsOver}
 use Rattle.kernel_int.proofs.Intervals.{plain}
-use Rattle.kernel_int.specs.Joint.{extent_size, IsAround, HasWidth}
+use Rattle.kernel_int.specs.Joint.{extent_size, IsAround, HasWidth, room}
+use Rattle.kernel_int.proofs.Rooms.{small_fits}
 
 -- ---- sizes
 abs_between : (a n b : ℤ) → a ≤ℤ n → n ≤ℤ b → unsigned_abs n ≤ max (unsigned_abs a) (unsigned_abs b)
@@ -43,9 +46,6 @@ in_size old n h = abs_between old.least n old.greatest h.0 h.1
 pub product_size : (old : Extent) (k n : ℤ) → IsIn old n → unsigned_abs (k *ℤ n) ≤ extent_size old * unsigned_abs k
 product_size old k n h = omega (arith, unsigned_abs-mul k n, mul-le-mul_right (unsigned_abs k) (in_size old n h))
 
-pub small_fits : (z : ℤ) (m : ℕ) → unsigned_abs z ≤ m → m < 2 ^ 126 → FitsSigned w128 z
-small_fits z m h small = fits_signed_from_abs w128 z (omega (arith, h, small))
-
 pub around_size : (extent : Extent) (d size : ℕ) → IsAround extent d size → unsigned_abs extent.denominator ≡ d
 around_size extent d size h = ap unsigned_abs h.denominator
 
@@ -64,42 +64,42 @@ raised_factor old new e positive is = record {
 }
 
 -- ---- operations
-pub scaled_is : (old new : Extent) (by : ℚ) (k : ℤ) (d size : ℕ) → IsAround new d size → IsFactor old by k new → FitsSigned w128 k
-    → extent_size old * unsigned_abs k ≤ size → size < 2 ^ 126 → IsScaled w128 old by k new
-scaled_is old new by k d size around over fits most small = record {
+pub scaled_is : (number_width : NumberWidth) (old new : Extent) (by : ℚ) (k : ℤ) (d size : ℕ) → IsAround new d size → IsFactor old by k new → FitsSigned (width_of number_width) k
+    → extent_size old * unsigned_abs k ≤ size → size < room number_width → IsScaled (width_of number_width) old by k new
+scaled_is number_width old new by k d size around over fits most small = record {
   over = over;
   fits = fits;
-  products = λ n h. small_fits (k *ℤ n) size (omega (arith, product_size old k n h, most)) small;
+  products = λ n h. small_fits number_width (k *ℤ n) size (omega (arith, product_size old k n h, most)) small;
   inside = λ n h. around.inside (k *ℤ n) (omega (arith, product_size old k n h, most));
 }
 
-pub minimum_is : (old new : Extent) (limit : ℚ) (e size : ℕ) → IsFactor old (nat 1) (pos e) new → e < 2 ^ 126
-    → extent_size old * e ≤ size → size < 2 ^ 126 → extent_size new ≤ size → ((n : ℤ) → unsigned_abs n ≤ size → new.least ≤ℤ n)
+pub minimum_is : (number_width : NumberWidth) (old new : Extent) (limit : ℚ) (e size : ℕ) → IsFactor old (nat 1) (pos e) new → e < room number_width
+    → extent_size old * e ≤ size → size < room number_width → extent_size new ≤ size → ((n : ℤ) → unsigned_abs n ≤ size → new.least ≤ℤ n)
     → IsOver new limit new.greatest
-    → IsMinimum w128 old limit (pos e) new
-minimum_is old new limit e size over e_small most small within least is = record {
+    → IsMinimum (width_of number_width) old limit (pos e) new
+minimum_is number_width old new limit e size over e_small most small within least is = record {
   over = over;
-  fits = small_fits (pos e) e (omega arith) e_small;
-  products = λ n h. small_fits (pos e *ℤ n) size (omega (arith, product_size old (pos e) n h, most)) small;
+  fits = small_fits number_width (pos e) e (omega arith) e_small;
+  products = λ n h. small_fits number_width (pos e *ℤ n) size (omega (arith, product_size old (pos e) n h, most)) small;
   above = λ n h. least (pos e *ℤ n) (omega (arith, product_size old (pos e) n h, most));
   ordered = least new.greatest (omega (arith, within));
-  least_fits = small_fits new.least size (omega (arith, within)) small;
-  greatest_fits = small_fits new.greatest size (omega (arith, within)) small;
+  least_fits = small_fits number_width new.least size (omega (arith, within)) small;
+  greatest_fits = small_fits number_width new.greatest size (omega (arith, within)) small;
   cut = inl is;
 }
 
-pub maximum_is : (old new : Extent) (limit : ℚ) (e size : ℕ) → IsFactor old (nat 1) (pos e) new → e < 2 ^ 126
-    → extent_size old * e ≤ size → size < 2 ^ 126 → extent_size new ≤ size → ((n : ℤ) → unsigned_abs n ≤ size → n ≤ℤ new.greatest)
+pub maximum_is : (number_width : NumberWidth) (old new : Extent) (limit : ℚ) (e size : ℕ) → IsFactor old (nat 1) (pos e) new → e < room number_width
+    → extent_size old * e ≤ size → size < room number_width → extent_size new ≤ size → ((n : ℤ) → unsigned_abs n ≤ size → n ≤ℤ new.greatest)
     → IsOver new limit new.least
-    → IsMaximum w128 old limit (pos e) new
-maximum_is old new limit e size over e_small most small within greatest is = record {
+    → IsMaximum (width_of number_width) old limit (pos e) new
+maximum_is number_width old new limit e size over e_small most small within greatest is = record {
   over = over;
-  fits = small_fits (pos e) e (omega arith) e_small;
-  products = λ n h. small_fits (pos e *ℤ n) size (omega (arith, product_size old (pos e) n h, most)) small;
+  fits = small_fits number_width (pos e) e (omega arith) e_small;
+  products = λ n h. small_fits number_width (pos e *ℤ n) size (omega (arith, product_size old (pos e) n h, most)) small;
   below = λ n h. greatest (pos e *ℤ n) (omega (arith, product_size old (pos e) n h, most));
   ordered = greatest new.least (omega (arith, within));
-  least_fits = small_fits new.least size (omega (arith, within)) small;
-  greatest_fits = small_fits new.greatest size (omega (arith, within)) small;
+  least_fits = small_fits number_width new.least size (omega (arith, within)) small;
+  greatest_fits = small_fits number_width new.greatest size (omega (arith, within)) small;
   cut = inl is;
 }
 
@@ -109,21 +109,21 @@ part_size unit m places d is below = omega (arith, unsigned_abs-mul (pos unit) (
     less : (m places : ℕ) → m < places → m ≤ places
     less m places h = omega (arith, h)
 
-pub dithered_is : (old new : Extent) (count k unit d size : ℕ) → IsAround new d size → IsFactor old (nat 1) (pos k) new → k < 2 ^ 126
-    → unit * (2 * 4 ^ count) ≡ d → extent_size old * k + d ≤ size → size < 2 ^ 126 → IsDithered w128 old count (pos k) (pos unit) new
-dithered_is old new count k unit d size around over k_small is most small =
+pub dithered_is : (number_width : NumberWidth) (old new : Extent) (count k unit d size : ℕ) → IsAround new d size → IsFactor old (nat 1) (pos k) new → k < room number_width
+    → unit * (2 * 4 ^ count) ≡ d → extent_size old * k + d ≤ size → size < room number_width → IsDithered (width_of number_width) old count (pos k) (pos unit) new
+dithered_is number_width old new count k unit d size around over k_small is most small =
     let product = λ (n : ℤ) (h : IsIn old n). product_size old (pos k) n h in
     let part = λ (m : ℕ) (below : m < 2 * 4 ^ count). part_size unit m (2 * 4 ^ count) d is below in
     let sum : (m : ℕ) (n : ℤ) → m < 2 * 4 ^ count → IsIn old n → unsigned_abs (pos k *ℤ n +ℤ pos unit *ℤ pos m) ≤ size =
     λ m n below h. omega (arith, abs_sum (pos k *ℤ n) (pos unit *ℤ pos m), product n h, part m below, most) in
     record {
       over = over;
-      fits = small_fits (pos k) k (omega arith) k_small;
-      products = λ n h. small_fits (pos k *ℤ n) size (omega (arith, product n h, most)) small;
+      fits = small_fits number_width (pos k) k (omega arith) k_small;
+      products = λ n h. small_fits number_width (pos k *ℤ n) size (omega (arith, product n h, most)) small;
       unit_is = pos-*ℤ-pos unit (2 * 4 ^ count) ∙ ap pos (is ∙ sym (around_size new d size around));
-      unit_fits = small_fits (pos unit) size (omega (arith, is, most, some_place count)) small;
-      addends = λ m below. small_fits (pos unit *ℤ pos m) size (omega (arith, part m below, most)) small;
-      sums = λ m n some below h. small_fits (pos k *ℤ n +ℤ pos unit *ℤ pos m) size (sum m n below h) small;
+      unit_fits = small_fits number_width (pos unit) size (omega (arith, is, most, some_place count)) small;
+      addends = λ m below. small_fits number_width (pos unit *ℤ pos m) size (omega (arith, part m below, most)) small;
+      sums = λ m n some below h. small_fits number_width (pos k *ℤ n +ℤ pos unit *ℤ pos m) size (sum m n below h) small;
       inside = λ m n some below h. around.inside (pos k *ℤ n +ℤ pos unit *ℤ pos m) (sum m n below h);
     }
   where
@@ -156,12 +156,12 @@ over_value a r t q d e is whole =
 pub over_size : (a r : ℤ) (t d : ℕ) → r ≡ a *ℤ pos (t * d) → unsigned_abs r ≡ unsigned_abs a * t * d
 over_size a r t d is = ap unsigned_abs is ∙ unsigned_abs-mul a (pos (t * d)) ∙ omega arith
 
-pub scaled_made : (old new : Extent) (by : ℚ) (k : ℤ) → pos 0 <ℤ old.denominator → k ≡ by.numerator → FitsSigned w128 k
+pub scaled_made : (number_width : NumberWidth) (old new : Extent) (by : ℚ) (k : ℤ) → pos 0 <ℤ old.denominator → k ≡ by.numerator → FitsSigned (width_of number_width) k
     → IsAround new (unsigned_abs old.denominator * by.denominator) (extent_size old * unsigned_abs by.numerator)
-    → extent_size old * unsigned_abs by.numerator < 2 ^ 126 → IsScaled w128 old by k new
-scaled_made old new by k positive is fits around small =
+    → extent_size old * unsigned_abs by.numerator < room number_width → IsScaled (width_of number_width) old by k new
+scaled_made number_width old new by k positive is fits around small =
     let same = around_size new _ _ around in
-    scaled_is old new by k _ _ around
+    scaled_is number_width old new by k _ _ around
     (subst (λ z. IsFactor old by z new) (sym is) (scale_factor old new by
     (omega (
       arith,
@@ -171,6 +171,45 @@ scaled_made old new by k positive is fits around small =
     )) same))
     fits (omega (arith, ap (λ z. extent_size old * unsigned_abs z) is)) small
 
+pub nothing_there : (old : Extent) → extent_size old ≡ 0 → (old.least ≡ pos 0) × (old.greatest ≡ pos 0)
+nothing_there old h = (none old.least (omega (arith, h)), none old.greatest (omega (arith, h)))
+  where
+    none : (z : ℤ) → unsigned_abs z ≡ 0 → z ≡ pos 0
+    none (pos n) h = ap pos h
+    none (negsuc n) h = absurd (omega (arith, h))
+
+-- the factor is 0 where the value is always 0
+pub scaling_made : (number_width : NumberWidth) (old new : Extent) (by : ℚ) (k : ℤ) → pos 0 <ℤ old.denominator
+    → (0 < extent_size old → k ≡ by.numerator) → (extent_size old ≡ 0 → k ≡ pos 0)
+    → IsAround new (unsigned_abs old.denominator * by.denominator) (extent_size old * unsigned_abs by.numerator)
+    → extent_size old * unsigned_abs by.numerator < room number_width → IsScaling (width_of number_width) old by k new
+scaling_made number_width old new by k positive some none around small = either (extent_size old) refl
+  where
+    either : (size : ℕ) → extent_size old ≡ size → IsScaling (width_of number_width) old by k new
+    either zero h =
+        let nothing = nothing_there old h in
+        inr (record {
+          least = nothing.0;
+          greatest = nothing.1;
+          zero = none h;
+          other = by.numerator;
+          over = scale_factor old new by
+              (omega (
+                arith,
+                around_size new _ _ around,
+                product_positive (unsigned_abs old.denominator) by.denominator (abs_positive old.denominator positive)
+                    (denominator_positive by),
+              )) (around_size new _ _ around);
+          there = around.inside (pos 0) (omega arith);
+        })
+    either (suc m) h =
+        let there : 0 < extent_size old = omega (arith, h) in
+        let is = some there in
+        inl (scaled_made number_width old new by k positive is
+        (small_fits number_width k (unsigned_abs by.numerator) (omega (arith, ap unsigned_abs is))
+        (omega (arith, small, mul-le-mul_right (unsigned_abs by.numerator) there)))
+        around small)
+
 raised_over : (old new : Extent) (e : ℕ) (k : ℤ) → pos 0 <ℤ old.denominator → 0 < e → k ≡ pos e
     → new.denominator ≡ pos (unsigned_abs old.denominator * e)
     → IsFactor old (nat 1) (pos e) new
@@ -179,56 +218,56 @@ raised_over old new e k positive some is same =
     (omega (arith, ap unsigned_abs same, product_positive (unsigned_abs old.denominator) e (abs_positive old.denominator positive) some))
     (ap unsigned_abs same)
 
-pub raised_made : (old new : Extent) (e : ℕ) (k : ℤ) → pos 0 <ℤ old.denominator → 0 < e → k ≡ pos e → e < 2 ^ 126
-    → IsAround new (unsigned_abs old.denominator * e) (extent_size old * e) → extent_size old * e < 2 ^ 126
-    → IsScaled w128 old (nat 1) k new
-raised_made old new e k positive some is e_small around small =
-    subst (λ z. IsScaled w128 old (nat 1) z new) (sym is)
-    (scaled_is old new (nat 1) (pos e) _ _ around (raised_over old new e k positive some is around.denominator)
-    (small_fits (pos e) e (omega arith) e_small) (omega arith) small)
+pub raised_made : (number_width : NumberWidth) (old new : Extent) (e : ℕ) (k : ℤ) → pos 0 <ℤ old.denominator → 0 < e → k ≡ pos e → e < room number_width
+    → IsAround new (unsigned_abs old.denominator * e) (extent_size old * e) → extent_size old * e < room number_width
+    → IsScaled (width_of number_width) old (nat 1) k new
+raised_made number_width old new e k positive some is e_small around small =
+    subst (λ z. IsScaled (width_of number_width) old (nat 1) z new) (sym is)
+    (scaled_is number_width old new (nat 1) (pos e) _ _ around (raised_over old new e k positive some is around.denominator)
+    (small_fits number_width (pos e) e (omega arith) e_small) (omega arith) small)
 
-pub minimum_made : (old new wide : Extent) (limit : ℚ) (e size : ℕ) (k cut : ℤ) → pos 0 <ℤ old.denominator → 0 < e → k ≡ pos e → e < 2 ^ 126
+pub minimum_made : (number_width : NumberWidth) (old new wide : Extent) (limit : ℚ) (e size : ℕ) (k cut : ℤ) → pos 0 <ℤ old.denominator → 0 < e → k ≡ pos e → e < room number_width
     → IsAround wide (unsigned_abs old.denominator * e) size → new.denominator ≡ wide.denominator → new.least ≡ wide.least
     → new.greatest ≡ cut
-    → size ≡ max (extent_size old * e) (unsigned_abs cut) → size < 2 ^ 126
+    → size ≡ max (extent_size old * e) (unsigned_abs cut) → size < room number_width
     → cut *ℤ pos limit.denominator ≡ limit.numerator *ℤ pos (unsigned_abs old.denominator * e)
-    → IsMinimum w128 old limit k new
-minimum_made old new wide limit e size k cut positive some is e_small around over least greatest size_is small value =
+    → IsMinimum (width_of number_width) old limit k new
+minimum_made number_width old new wide limit e size k cut positive some is e_small around over least greatest size_is small value =
     let same : unsigned_abs new.denominator ≡ unsigned_abs old.denominator * e = ap unsigned_abs (over ∙ around.denominator) in
-    subst (λ z. IsMinimum w128 old limit z new) (sym is)
-    (minimum_is old new limit e size (raised_over old new e k positive some is (over ∙ around.denominator)) e_small
+    subst (λ z. IsMinimum (width_of number_width) old limit z new) (sym is)
+    (minimum_is number_width old new limit e size (raised_over old new e k positive some is (over ∙ around.denominator)) e_small
     (omega (arith, size_is)) small
     (omega (arith, ap unsigned_abs least, ap unsigned_abs greatest, size_is, around.most))
     (λ n h. subst (λ z. z ≤ℤ n) (sym least) (around.inside n h).0)
     (subst (λ z. z *ℤ pos limit.denominator ≡ limit.numerator *ℤ pos (unsigned_abs new.denominator)) (sym greatest)
     (value ∙ ap (λ n. limit.numerator *ℤ pos n) (sym same))))
 
-pub maximum_made : (old new wide : Extent) (limit : ℚ) (e size : ℕ) (k cut : ℤ) → pos 0 <ℤ old.denominator → 0 < e → k ≡ pos e → e < 2 ^ 126
+pub maximum_made : (number_width : NumberWidth) (old new wide : Extent) (limit : ℚ) (e size : ℕ) (k cut : ℤ) → pos 0 <ℤ old.denominator → 0 < e → k ≡ pos e → e < room number_width
     → IsAround wide (unsigned_abs old.denominator * e) size → new.denominator ≡ wide.denominator → new.greatest ≡ wide.greatest
     → new.least ≡ cut
-    → size ≡ max (extent_size old * e) (unsigned_abs cut) → size < 2 ^ 126
+    → size ≡ max (extent_size old * e) (unsigned_abs cut) → size < room number_width
     → cut *ℤ pos limit.denominator ≡ limit.numerator *ℤ pos (unsigned_abs old.denominator * e)
-    → IsMaximum w128 old limit k new
-maximum_made old new wide limit e size k cut positive some is e_small around over greatest least size_is small value =
+    → IsMaximum (width_of number_width) old limit k new
+maximum_made number_width old new wide limit e size k cut positive some is e_small around over greatest least size_is small value =
     let same : unsigned_abs new.denominator ≡ unsigned_abs old.denominator * e = ap unsigned_abs (over ∙ around.denominator) in
-    subst (λ z. IsMaximum w128 old limit z new) (sym is)
-    (maximum_is old new limit e size (raised_over old new e k positive some is (over ∙ around.denominator)) e_small
+    subst (λ z. IsMaximum (width_of number_width) old limit z new) (sym is)
+    (maximum_is number_width old new limit e size (raised_over old new e k positive some is (over ∙ around.denominator)) e_small
     (omega (arith, size_is)) small
     (omega (arith, ap unsigned_abs least, ap unsigned_abs greatest, size_is, around.most))
     (λ n h. subst (λ z. n ≤ℤ z) (sym greatest) (around.inside n h).1)
     (subst (λ z. z *ℤ pos limit.denominator ≡ limit.numerator *ℤ pos (unsigned_abs new.denominator)) (sym least)
     (value ∙ ap (λ n. limit.numerator *ℤ pos n) (sym same))))
 
-pub dithered_made : (old new : Extent) (count places d h : ℕ) (k unit : ℤ) → pos 0 <ℤ old.denominator → 0 < d → places ≡ 2 * 4 ^ count
-    → h * unsigned_abs old.denominator ≡ d → d / places * places ≡ d → d < 2 ^ 126 → extent_size old * h + d < 2 ^ 126 → k ≡ pos h
+pub dithered_made : (number_width : NumberWidth) (old new : Extent) (count places d h : ℕ) (k unit : ℤ) → pos 0 <ℤ old.denominator → 0 < d → places ≡ 2 * 4 ^ count
+    → h * unsigned_abs old.denominator ≡ d → d / places * places ≡ d → d < room number_width → extent_size old * h + d < room number_width → k ≡ pos h
     → unit ≡ pos (d / places)
-    → IsAround new d (extent_size old * h + d) → IsDithered w128 old count k unit new
-dithered_made old new count places d h k unit positive some place over whole d_small small k_is unit_is around =
+    → IsAround new d (extent_size old * h + d) → IsDithered (width_of number_width) old count k unit new
+dithered_made number_width old new count places d h k unit positive some place over whole d_small small k_is unit_is around =
     let same = around_size new _ _ around in
     let each : d / places * (2 * 4 ^ count) ≡ d = ap (λ p. d / places * p) (sym place) ∙ whole in
-    subst (λ z. IsDithered w128 old count z unit new) (sym k_is)
-    (subst (λ z. IsDithered w128 old count (pos h) z new) (sym unit_is)
-    (dithered_is old new count h (d / places) d (extent_size old * h + d) around
+    subst (λ z. IsDithered (width_of number_width) old count z unit new) (sym k_is)
+    (subst (λ z. IsDithered (width_of number_width) old count (pos h) z new) (sym unit_is)
+    (dithered_is number_width old new count h (d / places) d (extent_size old * h + d) around
     (raised_factor old new h (omega (arith, same, some)) (omega (arith, same, over)))
     (omega (arith, over, d_small, mul-le-mul_left h (abs_positive old.denominator positive))) each (omega arith) small))
 

@@ -29,6 +29,7 @@ pub mod Positions
 pub mod RationalSteps
 pub mod PutRows
 pub mod Rationals
+pub mod Rooms
 pub mod RowSums
 pub mod RowFrames
 pub mod RunRows

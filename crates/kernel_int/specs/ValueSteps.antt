@@ -32,6 +32,18 @@ pub record IsScaled (width : Width) (old : Extent) (by : ℚ) (k : ℤ) (new : E
   pub products : (n : ℤ) → IsIn old n → FitsSigned width (k *ℤ n)
   pub inside : (n : ℤ) → IsIn old n → IsIn new (k *ℤ n)
 
+-- the factor 0 in place of another one, for a value that is always 0
+pub record IsNothing (old : Extent) (by : ℚ) (k : ℤ) (new : Extent) : Type 0 where
+  pub least : old.least ≡ pos 0
+  pub greatest : old.greatest ≡ pos 0
+  pub zero : k ≡ pos 0
+  pub other : ℤ
+  pub over : IsFactor old by other new
+  pub there : IsIn new (pos 0)
+
+abbrev pub IsScaling : Width → Extent → ℚ → ℤ → Extent → Type 0
+IsScaling width old by k new = IsScaled width old by k new ⊎ IsNothing old by k new
+
 -- a limit is a number over the denominator of an extent
 abbrev pub IsOver : Extent → ℚ → ℤ → Type 0
 IsOver extent limit n = n *ℤ pos limit.denominator ≡ limit.numerator *ℤ pos (unsigned_abs extent.denominator)
@@ -119,7 +131,7 @@ makes (Linear rows) v position x = x
 
 -- the factors of value v, and its new extent, are those of the operation
 abbrev pub IsMade : Width → Op → ℕ → Extent → ℤ → ℤ → Extent → Type 0
-IsMade width (Scale by) v old k unit new = IsScaled width old by k new
+IsMade width (Scale by) v old k unit new = IsScaling width old by k new
 IsMade width (Min limits) v old k unit new = IsAtMost width old (entry limits v) k new
 IsMade width (Max limits) v old k unit new = IsAtLeast width old (entry limits v) k new
 IsMade width (Dither count) v old k unit new = IsDithered width old count k unit new

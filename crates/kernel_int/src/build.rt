@@ -1,8 +1,10 @@
 // The kernel of a list.
 ghost use Rattle.std.specs.Prelude.{◌≡◌, ◌≤◌, ◌<◌, ◌^◌, true, length, sum, IfOk, IfSome};
+ghost use Rattle.std.specs.Prelude.{None};
 ghost use Rattle.op_list.specs.Typing.{IsOpList, ends_with_write, is_write};
 ghost use Rattle.op_range.specs.Width.{width};
 ghost use Rattle.kernel_int.specs.Forms.{AreStored, bits_of, planes_of};
+ghost use Rattle.kernel_int.specs.Joint.{room};
 
 use crate::form::{NumberWidth, Storage};
 use crate::joint_forms::joint_forms;
@@ -27,8 +29,8 @@ fn copied(alloc: Global, ops: &[Op]) -> Result<Vec<Op>, OutOfMemory>
     Ok(copies)
 }
 
-// The kernel of a list whose numerators have this width of numbers, where they fit.
-fn in_number_width(
+/// The kernel of a list whose numerators have this width of numbers, where they fit.
+pub fn in_number_width(
     alloc: Global,
     ops: &[Op],
     storage: Storage,
@@ -67,32 +69,61 @@ fn written(op: &Op) -> usize
     }
 }
 
-/// The kernel of a whole list that fits, with numerators of 128 bits over one denominator.
+/// The kernel of a whole list with numerators over one denominator, where all that it works out is
+/// below the room of this width of numbers.
 #[tactic(auto, using(crate::proofs::Kernels::written_few))]
 pub fn in_joint_numbers(
     alloc: Global,
     ops: &[Op],
     storage: Storage,
-) -> Result<RowKernel, OutOfMemory>
+    number_width: NumberWidth,
+) -> Result<Option<RowKernel>, OutOfMemory>
     requires sound { IsOpList ops.now }
     requires whole { ends_with_write ops.now ≡ true }
     requires some { 2 ≤ length ops.now }
     requires stored { AreStored ops.now (bits_of storage) }
-    requires fits { width ops.now < 2 ^ 126 }
-    ensures { IfOk result (λ kernel. kernel ≡ ops.now) }
+    requires room { 2 ^ 32 ≤ room number_width }
+    ensures kernel { IfOk result (λ found. IfSome found (λ kernel. kernel ≡ ops.now)) }
+    ensures none { IfOk result (λ found. width ops.now < room number_width → found ≡ None → ⊥) }
 {
-    let forms = joint_forms(alloc, ops, storage)?;
+    let Some(forms) = joint_forms(alloc, ops, storage, number_width)? else {
+        return Ok(None);
+    };
     let ops = copied(alloc, ops)?;
-    Ok(RowKernel {
+    Ok(Some(RowKernel {
         ops,
         forms,
         storage,
-        number_width: NumberWidth::Bits128,
-    })
+        number_width,
+    }))
+}
+
+// The kernel of a whole list with numerators of at most 64 bits: every list has one whose width is
+// below 2^62.
+fn in_few_bits(
+    alloc: Global,
+    ops: &[Op],
+    storage: Storage,
+) -> Result<Option<RowKernel>, OutOfMemory>
+    requires sound { IsOpList ops.now }
+    requires whole { ends_with_write ops.now ≡ true }
+    requires some { 2 ≤ length ops.now }
+    requires stored { AreStored ops.now (bits_of storage) }
+    ensures kernel { IfOk result (λ found. IfSome found (λ kernel. kernel ≡ ops.now)) }
+    ensures none { IfOk result (λ found. width ops.now < 2 ^ 62 → found ≡ None → ⊥) }
+{
+    if let Some(kernel) = in_number_width(alloc, ops, storage, NumberWidth::Bits32)? {
+        return Ok(Some(kernel));
+    }
+    if let Some(kernel) = in_number_width(alloc, ops, storage, NumberWidth::Bits64)? {
+        return Ok(Some(kernel));
+    }
+    in_joint_numbers(alloc, ops, storage, NumberWidth::Bits64)
 }
 
 /// The kernel of a whole list that fits, in the narrowest numerators that hold all that it works
-/// out. OutOfMemory comes where an allocation is refused.
+/// out: at most 64 bits where the width is below 2^62. OutOfMemory comes where an allocation is
+/// refused.
 #[tactic(auto, using(crate::proofs::Kernels::at_least_two))]
 pub fn compile(alloc: Global, list: &OpList) -> Result<RowKernel, OutOfMemory>
     requires whole { ends_with_write list.now ≡ true }
@@ -101,14 +132,14 @@ pub fn compile(alloc: Global, list: &OpList) -> Result<RowKernel, OutOfMemory>
 {
     let ops = list.ops();
     let storage = storage_of(ops);
-    if let Some(kernel) = in_number_width(alloc, ops, storage, NumberWidth::Bits32)? {
-        return Ok(kernel);
-    }
-    if let Some(kernel) = in_number_width(alloc, ops, storage, NumberWidth::Bits64)? {
+    if let Some(kernel) = in_few_bits(alloc, ops, storage)? {
         return Ok(kernel);
     }
     if let Some(kernel) = in_number_width(alloc, ops, storage, NumberWidth::Bits128)? {
         return Ok(kernel);
     }
-    in_joint_numbers(alloc, ops, storage)
+    match in_joint_numbers(alloc, ops, storage, NumberWidth::Bits128)? {
+        Some(kernel) => Ok(kernel),
+        None => unreachable!(),
+    }
 }

@@ -1,27 +1,33 @@
-// A row of a linear map, within the width of a list, at 128 bits.
+// A row of a linear map, within the width of a list.
 ghost use Rattle.std.specs.Prelude.{◌≡◌, ◌*◌, ◌/◌, ◌^◌, ◌<◌, ◌≤◌, pos, ◌*ℤ◌, ◌<ℤ◌, unsigned_abs};
-ghost use Rattle.std.specs.Int.{w128};
-ghost use Rattle.kernel_int.specs.Forms.{IsRow, IsTerm, extent_at, factor};
+ghost use Rattle.kernel_int.specs.Forms.{IsRow, IsTerm, extent_at, factor, width_of};
 ghost use Rattle.kernel_int.specs.Joint.{IsFactorOf, IsMultiple, RowWithin, extent_size, part};
-ghost use Rattle.kernel_int.specs.Joint.{row_most, row_total, term_most};
+ghost use Rattle.kernel_int.specs.Joint.{room, row_most, row_total, term_most};
 ghost use Rattle.op_list.specs.Values.{fraction_in};
 ghost use Rattle.op_range.specs.Width.{size_over};
 
-use crate::form::{Extent, Form};
+use crate::form::{Extent, Form, NumberWidth};
 use crate::joint::{around, size_of};
 use crate::joint_value::{denominator, number_over_both, times_of};
 use crate::made::Made;
 use frac_math::Frac;
 
 // The factor of a coefficient over d times e, where neither it nor the value is always 0.
-fn some_factor(coefficient: &Frac, e: u128, d: u128, old: &Extent) -> i128
+#[tactic(auto, using(crate::proofs::Rooms::room_below))]
+fn some_factor(
+    coefficient: &Frac,
+    e: u128,
+    d: u128,
+    old: &Extent,
+    _number_width: NumberWidth,
+) -> i128
     requires positive { pos 0 <ℤ old.now.denominator }
     requires some { 0 < unsigned_abs coefficient.now.numerator }
     requires there { 0 < extent_size old.now }
-    requires size { term_most e d coefficient.now old.now < 2 ^ 126 }
+    requires size { term_most e d coefficient.now old.now < room _number_width }
     ensures value { result ≡ coefficient.now.numerator
         *ℤ pos (e / coefficient.now.denominator * (d / unsigned_abs old.now.denominator)) }
-    ensures small { unsigned_abs result < 2 ^ 126 }
+    ensures small { unsigned_abs result < room _number_width }
 {
     times_of(coefficient.num(), times(coefficient, e, d, old))
 }
@@ -37,13 +43,19 @@ fn times(coefficient: &Frac, e: u128, d: u128, old: &Extent) -> u128
 
 // The factor of a coefficient over d times e. It is 0 where the value is always 0: no width bounds
 // the coefficient there.
-fn joint_factor(coefficient: &Frac, e: u128, d: u128, old: &Extent) -> i128
+fn joint_factor(
+    coefficient: &Frac,
+    e: u128,
+    d: u128,
+    old: &Extent,
+    number_width: NumberWidth,
+) -> i128
     requires positive { pos 0 <ℤ old.now.denominator }
     requires whole { IsMultiple e coefficient.now.denominator }
     requires over { IsMultiple d (unsigned_abs old.now.denominator) }
-    requires size { term_most e d coefficient.now old.now < 2 ^ 126 }
+    requires size { term_most e d coefficient.now old.now < room number_width }
     ensures term { IsFactorOf old.now coefficient.now result (d * e) }
-    ensures small { unsigned_abs result < 2 ^ 126 }
+    ensures small { unsigned_abs result < room number_width }
     ensures size { unsigned_abs result * extent_size old.now
         ≤ term_most e d coefficient.now old.now }
 {
@@ -53,27 +65,40 @@ fn joint_factor(coefficient: &Frac, e: u128, d: u128, old: &Extent) -> i128
     if size_of(old) == 0 {
         return 0;
     }
-    some_factor(coefficient, e, d, old)
+    some_factor(coefficient, e, d, old, number_width)
 }
 
 // Factor j of a row.
-fn row_factor(row: &[Frac; 5], e: u128, d: u128, before: &Form, j: usize) -> i128
-    requires within { RowWithin e d row.now before.now }
+fn row_factor(
+    row: &[Frac; 5],
+    e: u128,
+    d: u128,
+    before: &Form,
+    j: usize,
+    number_width: NumberWidth,
+) -> i128
+    requires within { RowWithin number_width e d row.now before.now }
     requires j { j < 4 }
     ensures term { IsTerm before.now (fraction_in row.now j) result (d * e) j }
-    ensures small { unsigned_abs result < 2 ^ 126 }
+    ensures small { unsigned_abs result < room number_width }
     ensures size { unsigned_abs result * extent_size (extent_at before.now j)
         ≤ term_most e d (fraction_in row.now j) (extent_at before.now j) }
 {
     let extent = before.extents[j];
     let coefficient = row[j];
-    joint_factor(&coefficient, e, d, &extent)
+    joint_factor(&coefficient, e, d, &extent, number_width)
 }
 
-#[tactic(auto, using(crate::proofs::JointRows::constant_within))]
 // The constant of a row.
-fn row_constant(row: &[Frac; 5], e: u128, d: u128, _before: &Form) -> i128
-    requires { RowWithin e d row.now _before.now }
+#[tactic(auto, using(crate::proofs::JointRows::constant_below, crate::proofs::Rooms::room_below))]
+fn row_constant(
+    row: &[Frac; 5],
+    e: u128,
+    d: u128,
+    _before: &Form,
+    _number_width: NumberWidth,
+) -> i128
+    requires { RowWithin _number_width e d row.now _before.now }
     ensures value { result *ℤ pos (fraction_in row.now 4).denominator
         ≡ (fraction_in row.now 4).numerator *ℤ pos (d * e) }
     ensures size { unsigned_abs result ≡ size_over e (fraction_in row.now 4) * d }
@@ -95,7 +120,8 @@ fn part(factors: &[i128; 5], before: &Form, j: usize) -> u128
 // The greatest sum of a row.
 fn row_total(factors: &[i128; 5], before: &Form) -> u128
     requires { row_total before.now factors.now < 2 ^ 126 }
-    ensures { result ≡ row_total before.now factors.now }
+    ensures value { result ≡ row_total before.now factors.now }
+    ensures small { result < 2 ^ 126 }
 {
     factors[4].unsigned_abs()
         + part(factors, before, 0)
@@ -105,18 +131,25 @@ fn row_total(factors: &[i128; 5], before: &Form) -> u128
 }
 
 /// A row of factors and a constant over d times e, and the extent of the sum.
-pub fn joint_row(row: &[Frac; 5], e: u128, d: u128, before: &Form) -> Made
-    requires { RowWithin e d row.now before.now }
-    ensures row { IsRow w128 before.now row.now result.factors result.extent }
+#[tactic(auto, using(crate::proofs::Rooms::room_below))]
+pub fn joint_row(
+    row: &[Frac; 5],
+    e: u128,
+    d: u128,
+    before: &Form,
+    number_width: NumberWidth,
+) -> Made
+    requires { RowWithin number_width e d row.now before.now }
+    ensures row { IsRow (width_of number_width) before.now row.now result.factors result.extent }
     ensures denominator { result.extent.denominator ≡ pos (d * e) }
     ensures size { extent_size result.extent ≤ row_most e d row.now before.now }
 {
     let factors = [
-        row_factor(row, e, d, before, 0),
-        row_factor(row, e, d, before, 1),
-        row_factor(row, e, d, before, 2),
-        row_factor(row, e, d, before, 3),
-        row_constant(row, e, d, before),
+        row_factor(row, e, d, before, 0, number_width),
+        row_factor(row, e, d, before, 1, number_width),
+        row_factor(row, e, d, before, 2, number_width),
+        row_factor(row, e, d, before, 3, number_width),
+        row_constant(row, e, d, before, number_width),
     ];
     let extent = around(d * e, row_total(&factors, before));
     Made { factors, extent }

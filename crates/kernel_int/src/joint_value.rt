@@ -1,14 +1,14 @@
-// What an operation makes of one value, within the width of a list, at 128 bits.
+// What an operation makes of one value, within the width of a list.
 ghost use Rattle.std.specs.Prelude.{◌≡◌, ◌+◌, ◌*◌, ◌/◌, ◌^◌, ◌<◌, ◌≤◌, max, ℕ, pos, ◌*ℤ◌, ◌<ℤ◌};
 ghost use Rattle.std.specs.Prelude.{unsigned_abs};
-ghost use Rattle.std.specs.Int.{w128};
 ghost use Rattle.frac_math.specs.Fraction.{nat};
 ghost use Rattle.op_range.specs.Width.{size_over};
-ghost use Rattle.kernel_int.specs.Forms.{factor};
-ghost use Rattle.kernel_int.specs.ValueSteps.{IsScaled, IsMinimum, IsMaximum, IsDithered};
-ghost use Rattle.kernel_int.specs.Joint.{IsAround, extent_size};
+ghost use Rattle.kernel_int.specs.Forms.{factor, width_of};
+ghost use Rattle.kernel_int.specs.ValueSteps.{IsScaled, IsScaling, IsMinimum, IsMaximum};
+ghost use Rattle.kernel_int.specs.ValueSteps.{IsDithered};
+ghost use Rattle.kernel_int.specs.Joint.{IsAround, extent_size, room};
 
-use crate::form::Extent;
+use crate::form::{Extent, NumberWidth};
 use crate::joint::{around, size_of};
 use crate::made::Made;
 use frac_math::Frac;
@@ -53,26 +53,38 @@ pub fn times_of(number: i128, n: u128) -> i128
 }
 
 /// The numbers of an extent times a fraction.
-pub fn joint_scaled(by: &Frac, old: &Extent) -> Made
+#[tactic(auto, using(crate::proofs::Rooms::room_below))]
+pub fn joint_scaled(by: &Frac, old: &Extent, _number_width: NumberWidth) -> Made
     requires positive { pos 0 <ℤ old.now.denominator }
-    requires denominator { unsigned_abs old.now.denominator * by.now.denominator < 2 ^ 126 }
-    requires size { extent_size old.now * unsigned_abs by.now.numerator < 2 ^ 126 }
-    ensures made { IsScaled w128 old.now by.now (factor result.factors 0) result.extent }
+    requires denominator { unsigned_abs old.now.denominator * by.now.denominator < room _number_width }
+    requires size { extent_size old.now * unsigned_abs by.now.numerator < room _number_width }
+    ensures made { IsScaling (width_of _number_width) old.now by.now
+        (factor result.factors 0) result.extent }
     ensures around { IsAround result.extent (unsigned_abs old.now.denominator * by.now.denominator)
         (extent_size old.now * unsigned_abs by.now.numerator) }
 {
     let d = old.denominator.unsigned_abs() * denominator(by);
     let size = size_of(old) * by.num().unsigned_abs();
-    made(by.num(), 0, around(d, size))
+    made(scaling(by, old), 0, around(d, size))
+}
+
+// The factor of a Scale. It is 0 where the value is always 0: no width bounds the factor there.
+fn scaling(by: &Frac, old: &Extent) -> i128
+    ensures some { 0 < extent_size old.now → result ≡ by.now.numerator }
+    ensures none { extent_size old.now ≡ 0 → result ≡ pos 0 }
+{
+    if size_of(old) == 0 { 0 } else { by.num() }
 }
 
 /// The numbers of an extent over e times its denominator.
-pub fn joint_raised(e: u128, old: &Extent) -> Made
-    requires some { (0 < e) × (e < 2 ^ 126) }
+#[tactic(auto, using(crate::proofs::Rooms::room_below))]
+pub fn joint_raised(e: u128, old: &Extent, _number_width: NumberWidth) -> Made
+    requires some { (0 < e) × (e < room _number_width) }
     requires positive { pos 0 <ℤ old.now.denominator }
-    requires denominator { unsigned_abs old.now.denominator * e < 2 ^ 126 }
-    requires size { extent_size old.now * e < 2 ^ 126 }
-    ensures made { IsScaled w128 old.now (nat 1) (factor result.factors 0) result.extent }
+    requires denominator { unsigned_abs old.now.denominator * e < room _number_width }
+    requires size { extent_size old.now * e < room _number_width }
+    ensures made { IsScaled (width_of _number_width) old.now (nat 1)
+        (factor result.factors 0) result.extent }
     ensures around { IsAround result.extent (unsigned_abs old.now.denominator * e)
         (extent_size old.now * e) }
 {
@@ -82,14 +94,16 @@ pub fn joint_raised(e: u128, old: &Extent) -> Made
 }
 
 /// The same, but at most a limit.
-pub fn joint_at_most(limit: &Frac, e: u128, old: &Extent) -> Made
-    requires some { (0 < e) × (e < 2 ^ 126) }
+#[tactic(auto, using(crate::proofs::Rooms::room_below))]
+pub fn joint_at_most(limit: &Frac, e: u128, old: &Extent, _number_width: NumberWidth) -> Made
+    requires some { (0 < e) × (e < room _number_width) }
     requires whole { e / limit.now.denominator * limit.now.denominator ≡ e }
     requires positive { pos 0 <ℤ old.now.denominator }
-    requires denominator { unsigned_abs old.now.denominator * e < 2 ^ 126 }
+    requires denominator { unsigned_abs old.now.denominator * e < room _number_width }
     requires size { max (extent_size old.now * e)
-        (size_over e limit.now * unsigned_abs old.now.denominator) < 2 ^ 126 }
-    ensures made { IsMinimum w128 old.now limit.now (factor result.factors 0) result.extent }
+        (size_over e limit.now * unsigned_abs old.now.denominator) < room _number_width }
+    ensures made { IsMinimum (width_of _number_width) old.now limit.now
+        (factor result.factors 0) result.extent }
     ensures denominator { result.extent.denominator ≡ pos (unsigned_abs old.now.denominator * e) }
     ensures size { extent_size result.extent
         ≤ max (extent_size old.now * e) (size_over e limit.now * unsigned_abs old.now.denominator) }
@@ -110,14 +124,16 @@ fn cut_above(extent: Extent, greatest: i128) -> Extent
 }
 
 /// The same, but at least a limit.
-pub fn joint_at_least(limit: &Frac, e: u128, old: &Extent) -> Made
-    requires some { (0 < e) × (e < 2 ^ 126) }
+#[tactic(auto, using(crate::proofs::Rooms::room_below))]
+pub fn joint_at_least(limit: &Frac, e: u128, old: &Extent, _number_width: NumberWidth) -> Made
+    requires some { (0 < e) × (e < room _number_width) }
     requires whole { e / limit.now.denominator * limit.now.denominator ≡ e }
     requires positive { pos 0 <ℤ old.now.denominator }
-    requires denominator { unsigned_abs old.now.denominator * e < 2 ^ 126 }
+    requires denominator { unsigned_abs old.now.denominator * e < room _number_width }
     requires size { max (extent_size old.now * e)
-        (size_over e limit.now * unsigned_abs old.now.denominator) < 2 ^ 126 }
-    ensures made { IsMaximum w128 old.now limit.now (factor result.factors 0) result.extent }
+        (size_over e limit.now * unsigned_abs old.now.denominator) < room _number_width }
+    ensures made { IsMaximum (width_of _number_width) old.now limit.now
+        (factor result.factors 0) result.extent }
     ensures denominator { result.extent.denominator ≡ pos (unsigned_abs old.now.denominator * e) }
     ensures size { extent_size result.extent
         ≤ max (extent_size old.now * e) (size_over e limit.now * unsigned_abs old.now.denominator) }
@@ -138,15 +154,16 @@ fn cut_below(extent: Extent, least: i128) -> Extent
 }
 
 /// The numbers of an extent over the denominator d, with a dither of so many places.
-pub fn joint_dithered(places: u128, d: u128, old: &Extent) -> Made
+#[tactic(auto, using(crate::proofs::Rooms::room_below))]
+pub fn joint_dithered(places: u128, d: u128, old: &Extent, _number_width: NumberWidth) -> Made
     requires some { 0 < places }
     requires positive { pos 0 <ℤ old.now.denominator }
     requires over { d / unsigned_abs old.now.denominator * unsigned_abs old.now.denominator ≡ d }
     requires whole { d / places * places ≡ d }
-    requires denominator { (0 < d) × (d < 2 ^ 126) }
-    requires size { extent_size old.now * (d / unsigned_abs old.now.denominator) + d < 2 ^ 126 }
+    requires denominator { (0 < d) × (d < room _number_width) }
+    requires size { extent_size old.now * (d / unsigned_abs old.now.denominator) + d < room _number_width }
     ensures made { (count : ℕ) → places ≡ 2 * 4 ^ count
-        → IsDithered w128 old.now count (factor result.factors 0)
+        → IsDithered (width_of _number_width) old.now count (factor result.factors 0)
         (factor result.factors 1) result.extent }
     ensures around { IsAround result.extent d
         (extent_size old.now * (d / unsigned_abs old.now.denominator) + d) }

@@ -5,7 +5,7 @@ ghost use Rattle.std.specs.Prelude.{◌≤ℤ◌, slice_index_or, unsigned_abs, 
 ghost use Rattle.frac_math.specs.Fraction.{◌*ℚ◌, nat};
 ghost use Rattle.kernel_int.specs.declared.form.Extent.{Extent};
 ghost use Rattle.kernel_int.specs.Forms.{factor, width_of};
-ghost use Rattle.kernel_int.specs.ValueSteps.{AreIn, IsScaled, MakesValue};
+ghost use Rattle.kernel_int.specs.ValueSteps.{AreIn, IsScaled, IsScaling, MakesValue};
 
 use crate::common::common_part;
 use crate::form::{Extent, NumberWidth};
@@ -152,7 +152,7 @@ pub fn scale_value<N: Numerator>(
     _new: &Extent,
 )
     requires block { (v < 4) × (length numbers.old ≡ 256) }
-    requires is { IsScaled N.width old.now _by.now (factor factors.now 0) _new.now }
+    requires is { IsScaling N.width old.now _by.now (factor factors.now 0) _new.now }
     requires old { AreIn N.value numbers.old v old.now }
     ensures made { MakesValue N.value numbers.old numbers.new v old.now _new.now
         (λ i x. x *ℚ _by.now) }
@@ -228,7 +228,7 @@ pub fn multiple_for(denominator: i128, other: i128) -> Option<i128> {
 
 /// What a Scale makes of the numbers of an extent, over the least denominator.
 pub fn scaled(old: &Extent, by: &Frac, number_width: NumberWidth) -> Option<Made>
-    ensures { IfSome result (λ made. IsScaled (width_of number_width) old.now by.now
+    ensures { IfSome result (λ made. IsScaling (width_of number_width) old.now by.now
         (factor made.factors 0) made.extent) }
 {
     let common = common_part(by.num(), old.denominator)?;

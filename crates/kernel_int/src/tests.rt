@@ -7,7 +7,8 @@ ghost use Rattle.op_list.specs.Pixel.{frame_length};
 ghost use Rattle.op_list.specs.Run.{read_length};
 ghost use Rattle.kernel_int.specs.Forms.{last_op};
 
-use crate::build::in_joint_numbers;
+use crate::build::{in_joint_numbers, in_number_width};
+use crate::form::NumberWidth;
 use crate::storage_of::storage_of;
 use crate::{RowKernel, compile};
 use frac_math::{Frac, OutOfMemory};
@@ -144,11 +145,36 @@ fn agrees_as_list(alloc: Global, list: &OpList, copy: &OpList, width: u32, rows:
     let Ok(kernel) = compile(alloc, list) else {
         return false;
     };
-    let Ok(joint) = in_joint_numbers(alloc, ops, storage_of(ops)) else {
+    let storage = storage_of(ops);
+    let Ok(Some(joint)) = in_joint_numbers(alloc, ops, storage, NumberWidth::Bits128) else {
         return false;
     };
+    if let Ok(Some(short)) = in_joint_numbers(alloc, ops, storage, NumberWidth::Bits64) {
+        if !gives_meant(&short, list, &input, copy, &mut output, width, rows) {
+            return false;
+        }
+    }
     gives_meant(&kernel, list, &input, copy, &mut output, width, rows)
         && gives_meant(&joint, list, &input, copy, &mut output, width, rows)
+}
+
+// Whether a list has numerators of 64 bits over one denominator, and none over own denominators.
+fn needs_joint_numbers(alloc: Global, ops: &[Op]) -> bool {
+    let Ok(list) = list_of(alloc, ops) else {
+        return false;
+    };
+    if !list.whole() || list.ops().len() < 2 {
+        return false;
+    }
+    let ops = list.ops();
+    let storage = storage_of(ops);
+    let Ok(own) = in_number_width(alloc, ops, storage, NumberWidth::Bits64) else {
+        return false;
+    };
+    let Ok(joint) = in_joint_numbers(alloc, ops, storage, NumberWidth::Bits64) else {
+        return false;
+    };
+    own.is_none() && joint.is_some()
 }
 
 // Whether a kernel of a list makes of a frame what the list means.
@@ -353,4 +379,24 @@ fn fractions(rt: HostRuntime) {
         write(PixType::U8, [1, 0, 0, 0]),
     ];
     assert!(rt; agrees_in_all_widths(rt.alloc(), &words));
+}
+
+#[test]
+fn joint_in_64_bits(rt: HostRuntime) {
+    // A factor of more than 64 bits, where each value is 0 before it.
+    let zero = Some(Frac::whole(0));
+    let ops = [
+        read(PixType::U8, [4, 0, 0, 0]),
+        convert(PixType::Rat),
+        Op::Clear {
+            values: [zero, zero, zero, zero],
+        },
+        Op::Scale {
+            by: Frac::whole(1 << 100),
+        },
+        convert(PixType::U8),
+        write(PixType::U8, [4, 0, 0, 0]),
+    ];
+    assert!(rt; needs_joint_numbers(rt.alloc(), &ops));
+    assert!(rt; agrees_in_all_widths(rt.alloc(), &ops));
 }

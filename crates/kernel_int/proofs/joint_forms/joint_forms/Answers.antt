@@ -1,33 +1,17 @@
 use Rattle.std.proofs.Common.{◌≡◌, ◌<◌, ◌+◌, ◌-◌, [], ◌∷◌, ◌++◌, length, length-append, refl, sym, ap, ◌∙◌, arith, subst}
-use Rattle.std.specs.Int.{w128}
 use Rattle.std.proofs.lemmas.List.{get_or_default}
 use Rattle.std.proofs.lemmas.Slice.{pushed}
 use Rattle.op_list.specs.declared.op.Op.TheVariants.{SwapBytes}
 use Rattle.op_list.specs.declared.types.Stage.TheVariants.{Start}
 use Rattle.op_list.specs.Typing.{stage_after}
 use Rattle.op_range.specs.Width.{width_after, whole_width}
-use Rattle.kernel_int.specs.Forms.{IsStep, form_at, no_form, op_at, stage_before, bits_of}
+use Rattle.kernel_int.specs.Forms.{IsStep, form_at, no_form, op_at, stage_before, bits_of, width_of}
 use Rattle.kernel_int.specs.Joint.{AreSame, IsJoint, IsSmall}
-use Rattle.kernel_int.proofs.Kernels.{first_stage, first_good, follows_at, good_at, stage_more, stage_zero}
+use Rattle.kernel_int.proofs.Kernels.{first_stage, follows_at, good_at, stage_more, stage_zero}
 use Rattle.kernel_int.proofs.Compiled.{few_more, steps_more, few_none}
 use Rattle.kernel_int.proofs.CompiledWalks.{typed_before, no_write, joint_first, joint_more}
-use Rattle.kernel_int.proofs.JointWidths.{walked_first, walked_more, walked_small, small_same}
+use Rattle.kernel_int.proofs.JointWidths.{start_same, walked_first, walked_more, walked_small, whole_small}
 use Rattle.kernel_int.proofs.joint_forms.joint_forms.Goals as goal
-
-pub next_width-width-requires-clause-good : goal.next_width-width-requires-clause-good
-next_width-width-requires-clause-good c =
-    let ops = c.args.ops.now in
-    let some : 0 < length ops = omega arith in
-    rw (c.index-ops-0.is ∙ get_or_default ops 0 _ SwapBytes some) (first_good ops c.requires.sound.typed some)
-
-pub next_width-width-requires-clause-small : goal.next_width-width-requires-clause-small
-next_width-width-requires-clause-small c =
-    let ops = c.args.ops.now in
-    let some : 0 < length ops = omega arith in
-    let small : IsSmall (width_after Start (op_at ops 0) (whole_width 0)) =
-    subst (λ s. IsSmall (width_after s (op_at ops 0) (whole_width 0))) (stage_zero ops)
-    (walked_small ops 0 (whole_width 0) some (walked_first ops c.requires.sound.typed c.requires.fits)) in
-    rw (c.index-ops-0.is ∙ get_or_default ops 0 _ SwapBytes some, c.whole_width.ensures) small
 
 pub loop-k-init : goal.loop-k-init
 loop-k-init c =
@@ -37,36 +21,41 @@ loop-k-init c =
     let form = c.whole_form.result in
     let items : c.push.new.self.items ≡ [] ++ (form ∷ []) =
     pushed (form ∷ []) c.new-forms.ensures.items c.in_ok-push.was c.push.ensures.items in
-    let first : c.index-ops-0.result ≡ op_at ops 0 = c.index-ops-0.is ∙ get_or_default ops 0 _ SwapBytes some in
-    let same : c.index-ops-0-2.result ≡ op_at ops 0 = c.index-ops-0-2.is ∙ get_or_default ops 0 _ SwapBytes some in
+    let same : c.index-ops-0.result ≡ op_at ops 0 = c.index-ops-0.is ∙ get_or_default ops 0 _ SwapBytes some in
     let stage : c.stage_after-stage.result ≡ stage_before ops 1 =
     c.stage_after-stage.ensures ∙ ap (stage_after Start) same ∙ sym (first_stage ops some) in
-    let next : AreSame c.next_width-width.result (width_after (stage_before ops 0) (op_at ops 0) (whole_width 0)) =
-    rw (stage_zero ops, ← first, ← c.whole_width.ensures) c.next_width-width.ensures in
+    let next : AreSame c.whole_width-width.result (width_after (stage_before ops 0) (op_at ops 0) (whole_width 0)) =
+    rw (stage_zero ops, c.whole_width-width.ensures) (start_same (op_at ops 0)) in
+    let small : IsSmall c.args.number_width c.whole_width-width.result =
+    rw c.whole_width-width.ensures (whole_small c.args.number_width Start c.requires.room) in
     record {
       count = ap length items;
       few = rw items (few_more [] form few_none (omega (arith, c.whole_form.ensures)));
       steps = λ k above below. absurd (omega (arith, above, below));
       stage = stage;
-      walked = walked_more ops 0 (whole_width 0) c.next_width-width.result some (walked_first ops typed c.requires.fits) next;
-      joint = rw (stage, items) (joint_first ops form c.next_width-width.result typed some c.whole_form.ensures);
+      walked = walked_more c.args.number_width ops 0 (whole_width 0) c.whole_width-width.result some
+          (walked_first c.args.number_width ops typed c.requires.room) next small;
+      joint = rw (stage, items) (joint_first ops form c.whole_width-width.result typed some c.whole_form.ensures);
     }
 
-pub next_width-next-requires-clause-good : goal.next_width-next-requires-clause-good
-next_width-next-requires-clause-good c =
+pub next_width-requires-clause-good : goal.next_width-requires-clause-good
+next_width-requires-clause-good c =
     let ops = c.args.ops.now in
     let k = c.loop-k.k in
     let within : k < length ops = omega arith in
     rw (c.loop-k.invariant.stage, c.index-ops-k.is ∙ get_or_default ops k _ SwapBytes within)
     (good_at ops k c.requires.sound.typed within)
 
-pub next_width-next-requires-clause-small : goal.next_width-next-requires-clause-small
-next_width-next-requires-clause-small c =
+pub returns-in_default-clause-none : goal.returns-in_default-clause-none
+returns-in_default-clause-none c =
     let ops = c.args.ops.now in
     let k = c.loop-k.k in
     let within : k < length ops = omega arith in
+    λ fits same.
+    let small : IsSmall c.args.number_width (width_after c.loop-k.stage c.index-ops-k.result c.loop-k.width) =
     rw (c.loop-k.invariant.stage, c.index-ops-k.is ∙ get_or_default ops k _ SwapBytes within)
-    (walked_small ops k c.loop-k.width within c.loop-k.invariant.walked)
+    (walked_small c.args.number_width ops k c.loop-k.width within c.loop-k.invariant.walked c.requires.room fits) in
+    c.next_width.ensures.none small c.in_default.is
 
 pub joint_form-form-requires-clause-typed : goal.joint_form-form-requires-clause-typed
 joint_form-form-requires-clause-typed c =
@@ -103,16 +92,6 @@ joint_form-form-requires-clause-stored c =
     rw (c.loop-k.invariant.stage, c.index-ops-k.is ∙ get_or_default ops k _ SwapBytes within, ← stage_more ops k within)
     (c.requires.stored (k + 1))
 
-pub joint_form-form-requires-clause-next_small : goal.joint_form-form-requires-clause-next_small
-joint_form-form-requires-clause-next_small c =
-    let ops = c.args.ops.now in
-    let k = c.loop-k.k in
-    let within : k < length ops = omega arith in
-    let small : IsSmall (width_after c.loop-k.stage c.index-ops-k.result c.loop-k.width) =
-    rw (c.loop-k.invariant.stage, c.index-ops-k.is ∙ get_or_default ops k _ SwapBytes within)
-    (walked_small ops k c.loop-k.width within c.loop-k.invariant.walked) in
-    small_same c.next_width-next.result _ c.next_width-next.ensures small
-
 pub loop-k-preserved : goal.loop-k-preserved
 loop-k-preserved c =
     let ops = c.args.ops.now in
@@ -126,22 +105,22 @@ loop-k-preserved c =
     let same : c.index-ops-k.result ≡ op_at ops k = c.index-ops-k.is ∙ get_or_default ops k _ SwapBytes within in
     let before : c.index.result.now ≡ form_at forms (k - 1) = c.index.ensures
     ∙ get_or_default forms (k - 1) _ no_form (omega (arith, old.count)) in
-    let step : IsStep (bits_of c.args.storage) w128 (stage_before ops k) (form_at forms (k - 1)) (op_at ops k) form =
+    let step : IsStep (bits_of c.args.storage) (width_of c.args.number_width) (stage_before ops k) (form_at forms (k - 1)) (op_at ops k) form =
     rw (← old.stage, ← before, ← same) c.joint_form-form.ensures.step in
     let stage : c.stage_after-stage-in-loop-k.result ≡ stage_before ops (k + 1) =
     c.stage_after-stage-in-loop-k.ensures ∙ ap (λ s. stage_after s c.index-ops-k.result) old.stage
     ∙ ap (λ o. stage_after (stage_before ops k) o) same ∙ sym (stage_more ops k within) in
-    let next : AreSame c.next_width-next.result (width_after (stage_before ops k) (op_at ops k) c.loop-k.width) =
-    rw (← old.stage, ← same) c.next_width-next.ensures in
-    let joint : IsJoint c.stage_after-stage-in-loop-k.result form c.next_width-next.result =
+    let next : AreSame c.in-Some.next (width_after (stage_before ops k) (op_at ops k) c.loop-k.width) =
+    rw (← old.stage, ← same) c.in-Some.ensures.same in
+    let joint : IsJoint c.stage_after-stage-in-loop-k.result form c.in-Some.next =
     rw c.stage_after-stage-in-loop-k.ensures c.joint_form-form.ensures.joint in
     record {
       count = ap length items ∙ length-append forms (form ∷ []) ∙ ap (λ n. n + 1) old.count;
       few = rw items (few_more forms form old.few c.joint_form-form.ensures.few);
-      steps = rw items (steps_more ops forms form (bits_of c.args.storage) w128 k old.count (omega arith) old.steps step);
+      steps = rw items (steps_more ops forms form (bits_of c.args.storage) (width_of c.args.number_width) k old.count (omega arith) old.steps step);
       stage = stage;
-      walked = walked_more ops k c.loop-k.width c.next_width-next.result within old.walked next;
-      joint = rw items (joint_more c.stage_after-stage-in-loop-k.result forms form c.next_width-next.result k old.count joint);
+      walked = walked_more c.args.number_width ops k c.loop-k.width c.in-Some.next within old.walked next c.in-Some.ensures.small;
+      joint = rw items (joint_more c.stage_after-stage-in-loop-k.result forms form c.in-Some.next k old.count joint);
     }
 
 pub returns-clause-few : goal.returns-clause-few

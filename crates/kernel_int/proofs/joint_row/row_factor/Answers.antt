@@ -1,9 +1,8 @@
-use Rattle.std.proofs.Common.{◌≡◌, arith, unsigned_abs, slice_index_or}
+use Rattle.std.proofs.Common.{◌≡◌, arith, slice_index_or}
 use Rattle.std.proofs.lemmas.List.{get_or_default}
 use Rattle.frac_math.specs.Fraction.{nat}
 use Rattle.op_list.specs.Values.{fraction_in}
-use Rattle.kernel_int.proofs.Intervals.{plain}
-use Rattle.kernel_int.proofs.JointValues.{small_fits}
+use Rattle.kernel_int.proofs.Rooms.{small_plain}
 use Rattle.kernel_int.proofs.JointRows.{term_of, term_within}
 use Rattle.kernel_int.proofs.joint_row.row_factor.Goals as goal
 
@@ -23,7 +22,7 @@ pub joint_factor-requires-clause-size : goal.joint_factor-requires-clause-size
 joint_factor-requires-clause-size c =
     let same : slice_index_or c.args.row.now c.args.j c.index-row-j.result ≡ fraction_in c.args.row.now c.args.j =
     get_or_default c.args.row.now c.args.j _ (nat 0) (omega arith) in
-    rw same (term_within c.args.e c.args.d c.args.row.now c.args.before.now c.args.j c.requires.within c.requires.j)
+    rw same (term_within c.args.number_width c.args.e c.args.d c.args.row.now c.args.before.now c.args.j c.requires.within c.requires.j)
 
 pub returns-clause-term : goal.returns-clause-term
 returns-clause-term c =
@@ -31,5 +30,5 @@ returns-clause-term c =
     let same : slice_index_or c.args.row.now c.args.j c.index-row-j.result ≡ fraction_in c.args.row.now c.args.j =
     get_or_default c.args.row.now c.args.j _ (nat 0) (omega arith) in
     let term = rw same at c.joint_factor.ensures.term in
-    rw (plain k (small_fits k (unsigned_abs k) (omega arith) c.joint_factor.ensures.small))
+    rw (small_plain c.args.number_width k c.joint_factor.ensures.small)
     (term_of c.args.before.now c.args.j (fraction_in c.args.row.now c.args.j) k _ c.requires.within.count c.requires.j term)

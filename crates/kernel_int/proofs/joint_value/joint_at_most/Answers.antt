@@ -16,6 +16,6 @@ returns-clause-made c =
     let kept : new.least ≡ c.around.result.least = search rules in
     let given : new.greatest ≡ cut = search rules in
     let size : c.max-size.result ≡ max (extent_size old * e) (unsigned_abs cut) = search rules in
-    minimum_made old new c.around.result c.args.limit.now e c.max-size.result
+    minimum_made c.args._number_width old new c.around.result c.args.limit.now e c.max-size.result
     (factor c.made.result.factors 0) cut c.requires.positive c.requires.some.0 k c.requires.some.1
     around denominator kept given size (search rules) (search rules)

@@ -13,6 +13,6 @@ returns-clause-made c =
     let k : factor c.made.result.factors 0 ≡ pos h = search rules in
     let unit : factor c.made.result.factors 1 ≡ pos (d / c.args.places) = search rules in
     let around : IsAround c.made.result.extent d (extent_size old * h + d) = search rules in
-    dithered_made old c.made.result.extent count c.args.places d h (factor c.made.result.factors 0)
+    dithered_made c.args._number_width old c.made.result.extent count c.args.places d h (factor c.made.result.factors 0)
     (factor c.made.result.factors 1) c.requires.positive c.requires.denominator.0 place
     c.requires.over c.requires.whole c.requires.denominator.1 c.requires.size k unit around

@@ -1,11 +1,13 @@
 use Rattle.std.proofs.Common.{◌*ℤ◌, pos, sym, ap, ◌∙◌, arith, subst, FitsSigned, to_z, of_z}
 use Rattle.std.specs.Int.{w128}
+use Rattle.kernel_int.specs.declared.form.NumberWidth.TheVariants.{Bits128}
 use Rattle.kernel_int.proofs.Intervals.{plain}
-use Rattle.kernel_int.proofs.JointValues.{small_fits, times_plain, times_fits}
+use Rattle.kernel_int.proofs.JointValues.{times_plain, times_fits}
+use Rattle.kernel_int.proofs.Rooms.{small_fits}
 use Rattle.kernel_int.proofs.joint_value.times_of.Goals as goal
 
 pub overflow_cast-result : goal.overflow_cast-result
-overflow_cast-result c = small_fits (pos c.args.n) c.args.n (omega arith) c.requires.factor
+overflow_cast-result c = small_fits Bits128 (pos c.args.n) c.args.n (omega arith) c.requires.factor
 
 pub overflow_mul-result : goal.overflow_mul-result
 overflow_mul-result c = subst (FitsSigned w128) (sym (times_plain c.args.number c.args.n c.ranges.number c.requires.factor))
