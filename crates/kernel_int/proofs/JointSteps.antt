@@ -2,6 +2,7 @@
 use Rattle.std.proofs.Common.{◌≡◌, ℕ, Bool, inl, ◌-◌, ◌^◌, ◌<◌, ◌≤◌, true, false, List, ℤ, pos, refl, sym, ap, arith, subst}
 use Rattle.std.specs.Prelude.{Option, Some, None, All, if◌then◌else◌, ◌<ℤ◌, unsigned_abs, slice_index, FitsSigned}
 use Rattle.std.specs.Int.{w128}
+use Rattle.std.proofs.lemmas.Bool.{not-true}
 use Rattle.std.proofs.lemmas.Int.{ints}
 use Rattle.frac_math.specs.Fraction.{ℚ}
 use Rattle.op_list.specs.declared.types.PixType.{PixType}
@@ -21,6 +22,7 @@ use Rattle.op_range.specs.Width.{size_in, width_after, fractions_width, whole_wi
 use Rattle.kernel_int.specs.declared.form.Extent.{Extent}
 use Rattle.kernel_int.specs.declared.form.Form.{Form}
 use Rattle.kernel_int.specs.Forms.{AreKept, IsCleared, IsMoved, IsNarrowed, IsStep, IsWidened, extent_at, factor, factors_at}
+use Rattle.kernel_int.specs.Forms.{makes_fractions}
 use Rattle.kernel_int.specs.Joint.{AreSame, HasWidth, IsGiven, IsJoint, IsJointStep, extent_size}
 use Rattle.kernel_int.proofs.JointClears.{clear_width}
 use Rattle.kernel_int.proofs.JointMade.{width_same, size_of_value, old_small}
@@ -75,10 +77,23 @@ positive_denominator new n is some = rw is (above n some)
     above n h = omega (arith, ints, h)
 
 -- ---- operations on whole numbers
+-- where whole numbers become fractions, a stage of fractions follows
+fractions_made : (stage : Stage) (op : Op) → makes_fractions op ≡ true → is_rational (stage_after stage op) ≡ true
+unfolding stage_after
+fractions_made stage (Convert Rat expand) h = refl
+fractions_made stage (Convert U8 expand) h = cc
+fractions_made stage (Convert U16 expand) h = cc
+fractions_made stage (Convert U32 expand) h = cc
+fractions_made stage op h = cc
+
 whole_step : (bits : ℕ) (op : Op) (stage : Stage) (before after : Form) (next : Width) → is_rational (stage_after stage op) ≡ false
     → after.count ≡ 4 → IsStep bits w128 stage before op after → IsJointStep bits stage before op after next
-whole_step bits op stage before after next kind count step =
-    record { few = omega (arith, count); step = step; joint = whole_joint (stage_after stage op) after next kind count }
+whole_step bits op stage before after next kind count step = record {
+  few = omega (arith, count);
+  step = step;
+  held = λ whole makes. absurd (let made = fractions_made stage op makes in cc (kind, made));
+  joint = whole_joint (stage_after stage op) after next kind count;
+}
 
 pub swap_bytes_step : (bits : ℕ) (stage : Stage) (before after : Form) (w next : Width)
     → IsGiven stage SwapBytes before w next → after.count ≡ 4 → IsJointStep bits stage before SwapBytes after next
@@ -126,6 +141,7 @@ clear_step bits entries stage before after w next given count cleared = record {
   few = omega (arith, count);
   step = λ v below. cleared_any (is_rational stage) before v (entry entries v) (factor (factors_at after v) 0) (extent_at after v)
       (cleared v (omega (arith, below, count)));
+  held = λ whole makes. cc;
   joint = record {
     count = count;
     extents = λ kind v below. clear_width entries v before (factor (factors_at after v) 0) (extent_at after v) w next
@@ -144,6 +160,7 @@ unfolding stage_after fractions_width
 swizzle_step bits from stage before after w next given count moved = record {
   few = omega (arith, count);
   step = λ v below. moved v (omega (arith, below, count));
+  held = λ whole makes. cc;
   joint = record { count = count; extents = each };
 }
   where
@@ -228,11 +245,13 @@ convert_step bits to expand stage before after w next given retyped stored = rec
       whole,
       λ v below. (
         omega (arith, below, retyped.count, given.joint.count),
-        (retyped.widened (not_whole stage whole) rational v (omega (arith, below, retyped.count))).0,
+        (retyped.widened (not_whole stage whole) rational v (omega (arith, below, retyped.count))).0.one,
       ),
     );
     narrowed = λ kind whole. (kind, stored, λ v below. retyped.narrowed kind whole (type_bits to) v (omega (arith, below, retyped.count)));
     same = retyped.kept;
   };
+  held = λ whole makes v below.
+      (retyped.widened (not_whole stage whole) (not-true (is_whole_type to) makes) v (omega (arith, below, retyped.count))).0;
   joint = record { count = retyped.count; extents = retyped_width to expand stage before after w next given retyped };
 }

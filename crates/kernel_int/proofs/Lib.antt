@@ -31,6 +31,7 @@ pub mod PutRows
 pub mod Rationals
 pub mod RowSums
 pub mod RowFrames
+pub mod RunLimits
 pub mod RunRows
 pub mod ScaleSteps
 pub mod ShortFactors

@@ -8,13 +8,13 @@ use Rattle.op_list.specs.declared.op.Op.{Op}
 use Rattle.op_list.specs.declared.op.Op.TheVariants.{Read, Write, SwapBytes, Unpack, Pack, Clear, LeftShift, RightShift, Swizzle}
 use Rattle.op_list.specs.declared.op.Op.TheVariants.{Convert, Dither, Linear, Scale, Min, Max}
 use Rattle.op_list.specs.Values.{entry, fraction_in}
-use Rattle.op_list.specs.Types.{is_rational}
+use Rattle.op_list.specs.Types.{bits_at, is_rational}
 use Rattle.op_list.specs.Typing.{are_typed, may_follow, are_good, stage_after}
 use Rattle.op_range.specs.declared.width.Width.{Width}
 use Rattle.op_range.specs.Width.{size_in, own_width_from, size_over, limited_size, width_after}
 use Rattle.kernel_int.specs.declared.form.Extent.{Extent}
 use Rattle.kernel_int.specs.declared.form.Form.{Form}
-use Rattle.kernel_int.specs.Forms.{IsRow, IsStep, extent_at, factor, stage_before}
+use Rattle.kernel_int.specs.Forms.{AreHeld, IsRow, IsStep, extent_at, factor, stage_before}
 use Rattle.kernel_int.specs.ValueSteps.{IsIn, IsMade, is_by_value}
 
 -- the numbers of a width are below 2^126
@@ -184,4 +184,5 @@ pub record IsGiven (stage : Stage) (op : Op) (before : Form) (width next : Width
 pub record IsJointStep (bits : ℕ) (stage : Stage) (before : Form) (op : Op) (after : Form) (next : Width) : Type 0 where
   pub few : after.count ≤ 4
   pub step : IsStep bits w128 stage before op after
+  pub held : AreHeld w128 (λ v. 2 ^ bits_at stage) stage op after
   pub joint : IsJoint (stage_after stage op) after next

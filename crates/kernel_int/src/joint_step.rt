@@ -5,7 +5,7 @@ ghost use Rattle.op_list.specs.Types.{bits_at, is_rational, is_typed, is_whole_t
 ghost use Rattle.op_list.specs.Typing.{are_good, is_write, may_follow, stage_after};
 ghost use Rattle.op_range.specs.Width.{width_after};
 ghost use Rattle.kernel_int.specs.Forms.{AreKept, IsNarrowed, IsStep, IsWidened, bits_of};
-ghost use Rattle.kernel_int.specs.Forms.{extent_at};
+ghost use Rattle.kernel_int.specs.Forms.{AreHeld, extent_at};
 ghost use Rattle.kernel_int.specs.ValueSteps.{IsDivided};
 ghost use Rattle.kernel_int.specs.Joint.{AreSame, IsGiven, IsJoint, IsJointStep, IsSmall};
 ghost use Rattle.kernel_int.specs.Joint.{extent_size};
@@ -108,6 +108,7 @@ pub fn joint_form(
     requires next_small { IsSmall next.now }
     ensures few { result.count ≤ 4 }
     ensures step { IsStep (bits_of _storage) w128 stage before.now op.now result }
+    ensures held { AreHeld w128 (λ v. 2 ^ bits_at stage) stage op.now result }
     ensures joint { IsJoint (stage_after stage op.now) result next.now }
 {
     stepped(op, stage, before, width, next)
