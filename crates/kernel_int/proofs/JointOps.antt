@@ -26,7 +26,7 @@ use Rattle.kernel_int.proofs.JointMade.{grown, row_fits, row_width, scale_fits, 
 use Rattle.kernel_int.proofs.JointMade.{limit_fits, limit_width, dither_fits, dither_width}
 use Rattle.kernel_int.proofs.JointMade.{LimitFits}
 use Rattle.kernel_int.proofs.JointValues.{abs_positive}
-use Rattle.kernel_int.proofs.JointSteps.{positive_denominator, same_fractions}
+use Rattle.kernel_int.proofs.JointSteps.{not_whole, positive_denominator, same_fractions}
 
 -- ---- Linear
 mapped_same : (number_width : NumberWidth) (rows : List (List ℚ)) (stage : Stage) (before : Form) (w next : Width) → IsGiven number_width stage (Linear rows) before w next
@@ -60,6 +60,7 @@ unfolding stage_after
 rows_step number_width bits rows stage before after w next e given is count made = record {
   few = omega (arith, count);
   step = λ v below. (made v (omega (arith, below, count))).0;
+  held = λ whole makes. cc;
   joint = record { count = count; extents = λ kind v below. each v below };
 }
   where
@@ -189,6 +190,7 @@ made_step number_width bits op stage before after w next e kind given is count m
   few = omega (arith, count);
   step = made_is number_width bits op stage before after kind
       (λ v below. (omega (arith, below, count, given.joint.count), (made v (omega (arith, below, count))).0));
+  held = λ whole. absurd (let no = rational_before stage op kind given.follows in cc (no, not_whole stage whole));
   joint = record {
     count = count;
     extents = λ rational v below. made_width number_width op stage before w next e v (factors_at after v) (extent_at after v) kind given is below

@@ -1,6 +1,7 @@
 -- One operation, within the width of a list.
 use Rattle.std.proofs.Common.{◌≡◌, ℕ, Bool, inl, ◌-◌, ◌^◌, ◌<◌, ◌≤◌, true, false, List, ℤ, pos, refl, sym, ap, arith, subst}
 use Rattle.std.specs.Prelude.{Option, Some, None, IfSome, All, if◌then◌else◌, ◌<ℤ◌, unsigned_abs, slice_index, FitsSigned}
+use Rattle.std.proofs.lemmas.Bool.{not-true}
 use Rattle.std.proofs.lemmas.Int.{ints}
 use Rattle.frac_math.specs.Fraction.{ℚ}
 use Rattle.op_list.specs.declared.types.PixType.{PixType}
@@ -21,7 +22,7 @@ use Rattle.kernel_int.specs.declared.form.Extent.{Extent}
 use Rattle.kernel_int.specs.declared.form.Form.{Form}
 use Rattle.kernel_int.specs.declared.form.NumberWidth.{NumberWidth}
 use Rattle.kernel_int.specs.Forms.{AreKept, IsCleared, IsMoved, IsNarrowed, IsStep, IsWidened, extent_at, factor, factors_at}
-use Rattle.kernel_int.specs.Forms.{width_of}
+use Rattle.kernel_int.specs.Forms.{makes_fractions, width_of}
 use Rattle.kernel_int.specs.Joint.{AreSame, HasWidth, IsGiven, IsJoint, IsJointStep, extent_size, room}
 use Rattle.kernel_int.proofs.JointClears.{clear_width, entry_small}
 use Rattle.kernel_int.proofs.JointMade.{width_same, size_of_value, old_small}
@@ -76,10 +77,23 @@ positive_denominator new n is some = rw is (above n some)
     above n h = omega (arith, ints, h)
 
 -- ---- operations on whole numbers
+-- where whole numbers become fractions, a stage of fractions follows
+fractions_made : (stage : Stage) (op : Op) → makes_fractions op ≡ true → is_rational (stage_after stage op) ≡ true
+unfolding stage_after
+fractions_made stage (Convert Rat expand) h = refl
+fractions_made stage (Convert U8 expand) h = cc
+fractions_made stage (Convert U16 expand) h = cc
+fractions_made stage (Convert U32 expand) h = cc
+fractions_made stage op h = cc
+
 whole_step : (number_width : NumberWidth) (bits : ℕ) (op : Op) (stage : Stage) (before after : Form) (next : Width) → is_rational (stage_after stage op) ≡ false
     → after.count ≡ 4 → IsStep bits (width_of number_width) stage before op after → IsJointStep number_width bits stage before op after next
-whole_step number_width bits op stage before after next kind count step =
-    record { few = omega (arith, count); step = step; joint = whole_joint (stage_after stage op) after next kind count }
+whole_step number_width bits op stage before after next kind count step = record {
+  few = omega (arith, count);
+  step = step;
+  held = λ whole makes. absurd (let made = fractions_made stage op makes in cc (kind, made));
+  joint = whole_joint (stage_after stage op) after next kind count;
+}
 
 pub swap_bytes_step : (number_width : NumberWidth) (bits : ℕ) (stage : Stage) (before after : Form) (w next : Width)
     → IsGiven number_width stage SwapBytes before w next → after.count ≡ 4 → IsJointStep number_width bits stage before SwapBytes after next
@@ -139,6 +153,7 @@ unfolding stage_after fractions_width
 clear_step number_width bits entries stage before after w next given count cleared = record {
   few = omega (arith, count);
   step = λ v below. cleared v (omega (arith, below, count));
+  held = λ whole makes. cc;
   joint = record {
     count = count;
     extents = λ kind v below. clear_width number_width entries v before (factor (factors_at after v) 0) (extent_at after v) w next
@@ -159,6 +174,7 @@ unfolding stage_after fractions_width
 swizzle_step number_width bits from stage before after w next given count moved = record {
   few = omega (arith, count);
   step = λ v below. moved v (omega (arith, below, count));
+  held = λ whole makes. cc;
   joint = record { count = count; extents = each };
 }
   where
@@ -251,11 +267,13 @@ convert_step number_width bits to expand stage before after w next given retyped
       whole,
       λ v below. (
         omega (arith, below, retyped.count, given.joint.count),
-        (retyped.widened (not_whole stage whole) rational v (omega (arith, below, retyped.count))).0,
+        (retyped.widened (not_whole stage whole) rational v (omega (arith, below, retyped.count))).0.one,
       ),
     );
     narrowed = λ kind whole. (kind, stored, λ v below. retyped.narrowed kind whole (type_bits to) v (omega (arith, below, retyped.count)));
     same = retyped.kept;
   };
+  held = λ whole makes v below.
+      (retyped.widened (not_whole stage whole) (not-true (is_whole_type to) makes) v (omega (arith, below, retyped.count))).0;
   joint = record { count = retyped.count; extents = retyped_width number_width to expand stage before after w next given retyped };
 }

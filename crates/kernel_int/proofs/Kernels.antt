@@ -268,36 +268,38 @@ kind_before ops frame position (suc k) i typed within =
     (follows_at ops k typed below) (good_at ops k typed below)
     ∙ ap is_rational (sym (stage_more ops k below)))
 
--- ---- a step between
-pub state_more : {W N : Type 0} (digits : W → ℕ) (value : N → ℤ) (ops : List Op) (forms : List Form) (position : PixelPosition) (k : ℕ)
-    (stage : Stage) (op : Op)
+-- ---- a step between; each pixel has a frame of its own
+pub state_more : {W N : Type 0} (digits : W → ℕ) (value : N → ℤ) (ops : List Op) (forms : List Form) (position : PixelPosition)
+    (frames : ℕ → List ℕ) (k : ℕ) (stage : Stage) (op : Op)
     (old_values values : List W) (old_numbers numbers : List N) → are_typed Start ops ≡ true → stage ≡ stage_before ops k → op ≡ op_at ops k
     → k < length ops
+    → ((i : ℕ) → apply [] (pixel_at position i) (stage_before ops k) (op_at ops k) (values_before ops (frames i) position k i)
+    ≡ apply (frames i) (pixel_at position i) (stage_before ops k) (op_at ops k) (values_before ops (frames i) position k i))
     → Performs digits value stage (form_at forms (k - 1)) op (form_at forms k) position old_values old_numbers values numbers
-    → (frame : List ℕ) (n : ℕ) → n ≤ 64 → IsState digits value (stage_before ops k) (form_at forms (k - 1)) old_values old_numbers n
-    (values_before ops frame position k)
+    → (n : ℕ) → n ≤ 64 → IsState digits value (stage_before ops k) (form_at forms (k - 1)) old_values old_numbers n
+    (λ i. values_before ops (frames i) position k i)
     → IsState digits value (stage_before ops (k + 1)) (form_at forms (k + 1 - 1)) values numbers n
-    (values_before ops frame position (k + 1))
-state_more digits value ops forms position k stage op old_values values old_numbers numbers typed same_stage same_op within performs frame n
-    most before =
-    let s : IsState digits value stage (form_at forms (k - 1)) old_values old_numbers n (values_before ops frame position k) =
-    subst (λ t. IsState digits value t (form_at forms (k - 1)) old_values old_numbers n (values_before ops frame position k))
-    (sym same_stage) before in
-    let kinds : (i : ℕ) → are_fractions (values_before ops frame position k i) ≡ is_rational stage =
-    λ i. kind_before ops frame position k i typed (omega (arith, within)) ∙ ap is_rational (sym same_stage) in
-    let made = performs frame n (values_before ops frame position k) most kinds s in
+    (λ i. values_before ops (frames i) position (k + 1) i)
+state_more digits value ops forms position frames k stage op old_values values old_numbers numbers typed same_stage same_op within alike
+    performs n most before =
+    let old : ℕ → Values = λ i. values_before ops (frames i) position k i in
+    let new : ℕ → Values = λ i. values_before ops (frames i) position (k + 1) i in
+    let s : IsState digits value stage (form_at forms (k - 1)) old_values old_numbers n old =
+    subst (λ t. IsState digits value t (form_at forms (k - 1)) old_values old_numbers n old) (sym same_stage) before in
+    let kinds : (i : ℕ) → are_fractions (old i) ≡ is_rational stage =
+    λ i. kind_before ops (frames i) position k i typed (omega (arith, within)) ∙ ap is_rational (sym same_stage) in
+    let made = performs [] n old most kinds s in
     let stage_is : stage_after stage op ≡ stage_before ops (k + 1) =
     ap (λ t. stage_after t op) same_stage ∙ ap (λ o. stage_after (stage_before ops k) o) same_op ∙ sym (stage_more ops k within) in
-    let values_are : (i : ℕ) → apply frame (pixel_at position i) stage op (values_before ops frame position k i)
-    ≡ values_before ops frame position (k + 1) i =
-    λ i. ap (λ t. apply frame (pixel_at position i) t op (values_before ops frame position k i)) same_stage
-    ∙ ap (λ o. apply frame (pixel_at position i) (stage_before ops k) o (values_before ops frame position k i)) same_op
-    ∙ sym (values_more ops frame position k i within) in
+    let values_are : (i : ℕ) → apply [] (pixel_at position i) stage op (old i) ≡ new i =
+    λ i. ap (λ t. apply [] (pixel_at position i) t op (old i)) same_stage
+    ∙ ap (λ o. apply [] (pixel_at position i) (stage_before ops k) o (old i)) same_op
+    ∙ alike i ∙ sym (values_more ops (frames i) position k i within) in
     let form_is : form_at forms k ≡ form_at forms (k + 1 - 1) = ap (form_at forms) (omega arith) in
-    let all : IsState digits value (stage_after stage op) (form_at forms k) values numbers n (values_before ops frame position (k + 1)) =
+    let all : IsState digits value (stage_after stage op) (form_at forms k) values numbers n new =
     subst (λ g. IsState digits value (stage_after stage op) (form_at forms k) values numbers n g) (λ j i. values_are i j) made in
-    subst (λ f. IsState digits value (stage_before ops (k + 1)) f values numbers n (values_before ops frame position (k + 1))) form_is
-    (subst (λ t. IsState digits value t (form_at forms k) values numbers n (values_before ops frame position (k + 1))) stage_is all)
+    subst (λ f. IsState digits value (stage_before ops (k + 1)) f values numbers n new) form_is
+    (subst (λ t. IsState digits value t (form_at forms k) values numbers n new) stage_is all)
 
 pub bounded_more : {W N : Type 0} (digits : W → ℕ) (value : N → ℤ) (ops : List Op) (forms : List Form) (k : ℕ) (stage : Stage) (op : Op)
     (values : List W) (numbers : List N) → stage ≡ stage_before ops k → op ≡ op_at ops k → k < length ops

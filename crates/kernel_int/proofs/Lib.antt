@@ -32,6 +32,7 @@ pub mod Rationals
 pub mod Rooms
 pub mod RowSums
 pub mod RowFrames
+pub mod RunLimits
 pub mod RunRows
 pub mod ScaleSteps
 pub mod ShortFactors

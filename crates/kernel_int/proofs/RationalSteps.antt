@@ -1,20 +1,19 @@
 -- The steps between fractions: what a block holds, and its bounds.
-use Rattle.std.proofs.Common.{◌≡◌, ℕ, ◌+◌, ◌*◌, ◌/◌, ◌%◌, ◌^◌, ◌<◌, ◌≤◌, Bool, true, List, ℤ, pos, length, slice_index_or, FitsSigned, ◌∙◌}
-use Rattle.std.proofs.Common.{arith, subst}
+use Rattle.std.proofs.Common.{◌≡◌, ℕ, ◌+◌, ◌*◌, ◌/◌, ◌%◌, ◌<◌, ◌≤◌, Bool, true, List, ℤ, pos, length, slice_index_or, FitsSigned, ◌∙◌}
+use Rattle.std.proofs.Common.{arith, refl, subst}
 use Rattle.std.specs.Int.{Width}
 use Rattle.frac_math.specs.Fraction.{ℚ, nat}
 use Rattle.op_list.specs.declared.types.Stage.{Stage}
 use Rattle.op_list.specs.declared.types.PixType.TheVariants.{Rat}
 use Rattle.op_list.specs.declared.op.Op.TheVariants.{Convert, Linear}
 use Rattle.op_list.specs.declared.position.PixelPosition.{PixelPosition}
-use Rattle.op_list.specs.Types.{bits_at, is_rational}
+use Rattle.op_list.specs.Types.{is_rational}
 use Rattle.op_list.specs.Typing.{stage_after, may_follow}
 use Rattle.op_list.specs.Apply.{apply, row_of, row_value}
 use Rattle.op_list.proofs.Applied.{whole_not_rational}
 use Rattle.kernel_int.specs.declared.form.Form.{Form}
-use Rattle.kernel_int.specs.Block.{AreBelow}
 use Rattle.kernel_int.specs.Rules.{row_sum, lane_numbers}
-use Rattle.kernel_int.specs.Forms.{extent_at, factors_at, AreWidened, IsBounded, IsRow, Performs}
+use Rattle.kernel_int.specs.Forms.{extent_at, factors_at, AreReady, AreWidened, IsBounded, IsRow, Performs}
 use Rattle.kernel_int.proofs.Fours.{four_at}
 use Rattle.kernel_int.proofs.Kernels.{some_element}
 use Rattle.kernel_int.proofs.Swizzles.{rational_not_whole}
@@ -25,46 +24,42 @@ abbrev pub Widens : {W N : Type 0} → (W → ℕ) → (N → ℤ) → ℕ → L
 Widens {W} {N} digits value n values numbers = (j : ℕ) (d : W) (e : N) → j < n
     → value (slice_index_or numbers j e) ≡ pos (digits (slice_index_or values j d))
 
-pub widened_fit : {W : Type 0} (digits : W → ℕ) (width : Width) (stage : Stage) (before after : Form) (values : List W)
-    → AreWidened width stage before after
-    → AreBelow digits values before.count (2 ^ bits_at stage) → (j : ℕ) (d : W) → j < 64 * after.count
-    → FitsSigned width (pos (digits (slice_index_or values j d)))
-widened_fit digits width stage before after values is low j d below =
+pub widened_fit : {W : Type 0} (digits : W → ℕ) (width : Width) (stage : Stage) (expand : Bool) (before after : Form) (values : List W)
+    → AreWidened stage before after → AreReady digits width stage (Convert Rat expand) after values
+    → (j : ℕ) (d : W) → j < 64 * after.count → FitsSigned width (pos (digits (slice_index_or values j d)))
+widened_fit digits width stage expand before after values is ready j d below =
     let v = j / 64 in
     let i = j % 64 in
     let same : 64 * v + i ≡ j = omega arith in
     let within : v < after.count = omega arith in
-    let one = is.1 v within in
-    subst (λ t. FitsSigned width (pos (digits (slice_index_or values t d)))) same
-    (one.1.fits (digits (slice_index_or values (64 * v + i) d)) (low v i d one.0 (omega arith)))
+    subst (λ t. FitsSigned width (pos (digits (slice_index_or values t d)))) same (ready is.0 refl v i d within (omega arith)).fits
 
 pub widened_bounded : {W N : Type 0} (digits : W → ℕ) (value : N → ℤ) (width : Width) (stage : Stage) (expand : Bool) (before after : Form)
-    (values : List W) (old new : List N)
-    → AreWidened width stage before after → after.count ≤ 4 → length values ≡ 256 → Widens digits value (64 * after.count) values new
-    → IsBounded digits value stage before values old → IsBounded digits value (stage_after stage (Convert Rat expand)) after values new
+    (values : List W) (new : List N)
+    → AreWidened stage before after → AreReady digits width stage (Convert Rat expand) after values
+    → after.count ≤ 4 → length values ≡ 256 → Widens digits value (64 * after.count) values new
+    → IsBounded digits value (stage_after stage (Convert Rat expand)) after values new
 unfolding stage_after
-widened_bounded {W} {N} digits value width stage expand before after values old new is few size widens bounded = record {
+widened_bounded {W} {N} digits value width stage expand before after values new is ready few size widens = record {
   small = λ whole. cc;
   bound = λ rational v i d below within.
-      let one = is.1 v below in
       let some : W = some_element values (omega (arith, size)) in
-      rw (widens (64 * v + i) some d (omega (arith, below, within)))
-      (one.1.bounds (digits (slice_index_or values (64 * v + i) some)) (bounded.small is.0 v i some one.0 within));
+      rw (widens (64 * v + i) some d (omega (arith, below, within))) (ready is.0 refl v i some below within).bounds;
 }
 
-pub widened_performs : {W N : Type 0} (digits : W → ℕ) (value : N → ℤ) (width : Width) (stage : Stage) (expand : Bool) (before after : Form)
+pub widened_performs : {W N : Type 0} (digits : W → ℕ) (value : N → ℤ) (stage : Stage) (expand : Bool) (before after : Form)
     (position : PixelPosition) (values : List W) (old new : List N)
-    → AreWidened width stage before after → after.count ≤ 4 → length values ≡ 256 → Widens digits value (64 * after.count) values new
+    → AreWidened stage before after → after.count ≤ 4 → length values ≡ 256 → Widens digits value (64 * after.count) values new
     → Performs digits value stage before (Convert Rat expand) after position values old values new
 unfolding stage_after apply
-widened_performs {W} {N} digits value width stage expand before after position values old new is few size widens frame n given most kinds
+widened_performs {W} {N} digits value stage expand before after position values old new is few size widens frame n given most kinds
     state = record {
       whole = λ whole. cc;
       exact = λ rational v i d below within.
           let one = is.1 v below in
           let some : W = some_element values (omega (arith, size)) in
           let lane_below : 64 * v + i < 64 * after.count = omega (arith, below, within, most) in
-          rw (widens (64 * v + i) some d lane_below, state.whole is.0 v i some one.0 within, one.1.one)
+          rw (widens (64 * v + i) some d lane_below, state.whole is.0 v i some one.0 within, one.1)
           (widened_stands (given i) expand v (omega (arith, below, few)) (kinds i ∙ whole_not_rational stage is.0));
     }
 

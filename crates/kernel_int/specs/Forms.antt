@@ -1,6 +1,6 @@
 -- What a block holds after some operations, and when the numbers that a kernel works with are those of an operation.
 use Rattle.std.specs.Prelude.{◌≡◌, ℕ, ◌+◌, ◌-◌, ◌*◌, ◌^◌, ◌<◌, ◌≤◌, Bool, true, false, List, [], length, take, Option, Some, None, sum}
-use Rattle.std.specs.Prelude.{slice_index, slice_index_or, ℤ, pos, ◌≤ℤ◌, ◌*ℤ◌, ◌⊎◌, unsigned_abs, FitsSigned}
+use Rattle.std.specs.Prelude.{slice_index, slice_index_or, ℤ, pos, ◌≤ℤ◌, ◌*ℤ◌, ◌/◌, ◌⊎◌, unsigned_abs, FitsSigned, min, not, All}
 use Rattle.std.specs.Int.{Width, w32, w64, w128}
 use Rattle.frac_math.specs.Standing.{Stands}
 use Rattle.frac_math.specs.Fraction.{ℚ}
@@ -16,9 +16,13 @@ use Rattle.op_list.specs.declared.values.Values.{Values}
 use Rattle.op_list.specs.Types.{bits_at, is_whole, is_whole_type, is_rational}
 use Rattle.op_list.specs.Types.{bits as type_bits}
 use Rattle.op_list.specs.Typing.{stage_after, stage_from, are_typed, ends_with_write}
-use Rattle.op_list.specs.Values.{number, fraction, fraction_in, no_values, are_fractions, entry}
+use Rattle.op_list.specs.Values.{number, fraction, fraction_in, four, no_values, are_fractions, entry}
 use Rattle.op_list.specs.Apply.{apply, row_of}
 use Rattle.op_list.specs.Run.{run_from}
+use Rattle.op_range.specs.Ranges.{only_zero}
+use Rattle.op_range.specs.States.{comp_range, states_of}
+use Rattle.op_range.specs.declared.state.CompRange.{CompRange}
+use Rattle.op_range.specs.declared.state.StateRange.{StateRange}
 use Rattle.kernel_int.specs.declared.form.Extent.{Extent}
 use Rattle.kernel_int.specs.declared.form.Divisor.{Divisor}
 use Rattle.kernel_int.specs.declared.form.Divisor.TheVariants.{Short}
@@ -54,6 +58,33 @@ stage_before ops k = stage_from Start (take k ops)
 unfoldable pub values_before : List Op → List ℕ → PixelPosition → ℕ → ℕ → Values
 values_before ops frame position k i = run_from frame (pixel_at position i) Start (take k ops) no_values
 
+-- ---- what is known of whole numbers
+-- a limit above each whole number of so many bits that is at most a bound
+abbrev pub limit_of : Option ℚ → ℕ → ℕ
+limit_of None bits = 2 ^ bits
+limit_of (Some x) bits = min (2 ^ bits) (unsigned_abs x.numerator / x.denominator + 1)
+
+abbrev pub no_range : CompRange
+no_range = comp_range only_zero false
+
+abbrev pub no_state : StateRange
+no_state = record { comps = [] }
+
+-- the range of value v
+abbrev pub range_at : StateRange → ℕ → CompRange
+range_at state v = slice_index_or state.comps v no_range
+
+abbrev pub limits_in : StateRange → ℕ → List ℕ
+limits_in state bits = four (λ v. limit_of (range_at state v).greatest bits)
+
+abbrev pub state_at : List StateRange → ℕ → StateRange
+state_at states k = slice_index_or states k no_state
+
+-- limits above the whole numbers before an operation that is not the first, at every pixel of every frame
+abbrev pub limits_before : List Op → ℕ → ℕ → ℕ
+limits_before ops k = slice_index (limits_in (state_at (states_of ops) (k - 1)) (bits_at (stage_before ops k)))
+
+-- ---- forms
 -- the denominator of value v
 abbrev pub denominator : Form → ℕ → ℕ
 denominator form v = unsigned_abs (extent_at form v).denominator
@@ -80,6 +111,13 @@ pub record IsBounded {W N : Type 0} (digits : W → ℕ) (value : N → ℤ) (st
     (numbers : List N) : Type 0 where
   pub small : is_whole stage ≡ true → AreBelow digits values form.count (2 ^ bits_at stage)
   pub bound : is_rational stage ≡ true → AreWithin value numbers form
+
+-- Each of all 64 pixels of a block has the values that some frame of bytes gives before operation k.
+pub record AreRuns {W N : Type 0} (digits : W → ℕ) (value : N → ℤ) (ops : List Op) (k : ℕ) (position : PixelPosition) (form : Form)
+    (values : List W) (numbers : List N) : Type 0 where
+  pub frames : ℕ → List ℕ
+  pub bytes : (i : ℕ) → All (λ byte. byte < 256) (frames i)
+  pub state : IsState digits value (stage_before ops k) form values numbers 64 (λ i. values_before ops (frames i) position k i)
 
 -- Where the first n pixels of a block have some values, they have afterwards what the operation makes of them.
 abbrev pub Performs : {W N : Type 0} → (W → ℕ) → (N → ℤ) → Stage → Form → Op → Form → PixelPosition → List W → List N → List W → List N
@@ -152,10 +190,10 @@ AreMade width before op after = (v : ℕ) → v < after.count
     (extent_at after v)
 
 -- ---- Convert
--- whole numbers over 1, in a width that holds them
-abbrev pub AreWidened : Width → Stage → Form → Form → Type 0
-AreWidened width stage before after =
-    (is_whole stage ≡ true) × ((v : ℕ) → v < after.count → (v < before.count) × IsWidened width (2 ^ bits_at stage) (extent_at after v))
+-- whole numbers over 1
+abbrev pub AreWidened : Stage → Form → Form → Type 0
+AreWidened stage before after =
+    (is_whole stage ≡ true) × ((v : ℕ) → v < after.count → (v < before.count) × ((extent_at after v).denominator ≡ pos 1))
 
 -- floors of fractions, as whole numbers of a type that the storage holds
 abbrev pub AreNarrowed : ℕ → Width → Stage → Form → PixType → Form → Type 0
@@ -170,9 +208,41 @@ AreKept before after = (v : ℕ) → v < after.count → IsMoved before v after 
 -- the forms of values that get another type, by what they are before
 pub record IsConverted (bits : ℕ) (width : Width) (stage : Stage) (to : PixType) (before after : Form) : Type 0 where
   pub there : after.count ≤ before.count
-  pub widened : is_whole stage ≡ true → is_whole_type to ≡ false → AreWidened width stage before after
+  pub widened : is_whole stage ≡ true → is_whole_type to ≡ false → AreWidened stage before after
   pub narrowed : is_rational stage ≡ true → is_whole_type to ≡ true → AreNarrowed bits width stage before to after
   pub same : is_rational stage ≡ true → is_whole_type to ≡ false → AreKept before after
+
+abbrev pub makes_fractions : Op → Bool
+makes_fractions (Read elem planes palette) = false
+makes_fractions (Write elem planes) = false
+makes_fractions SwapBytes = false
+makes_fractions (Unpack widths) = false
+makes_fractions (Pack widths) = false
+makes_fractions (Clear entries) = false
+makes_fractions (LeftShift n) = false
+makes_fractions (RightShift n) = false
+makes_fractions (Swizzle from) = false
+makes_fractions (Convert to expand) = not (is_whole_type to)
+makes_fractions (Dither count) = false
+makes_fractions (Linear rows) = false
+makes_fractions (Scale by) = false
+makes_fractions (Min limits) = false
+makes_fractions (Max limits) = false
+
+-- where whole numbers become fractions, all those below their limits lie in the new extents, in a width that holds them
+abbrev pub AreHeld : Width → (ℕ → ℕ) → Stage → Op → Form → Type 0
+AreHeld width limits stage op after = is_whole stage ≡ true → makes_fractions op ≡ true → (v : ℕ) → v < after.count
+    → IsWidened width (limits v) (extent_at after v)
+
+-- a whole number that lies in an extent, in a width that holds it
+pub record IsHeld (width : Width) (extent : Extent) (m : ℕ) : Type 0 where
+  pub bounds : (extent.least ≤ℤ pos m) × (pos m ≤ℤ extent.greatest)
+  pub fits : FitsSigned width (pos m)
+
+-- where whole numbers become fractions, those of all 64 pixels are such ones
+abbrev pub AreReady : {W : Type 0} → (W → ℕ) → Width → Stage → Op → Form → List W → Type 0
+AreReady {W} digits width stage op after values = is_whole stage ≡ true → makes_fractions op ≡ true
+    → (v i : ℕ) (d : W) → v < after.count → i < 64 → IsHeld width (extent_at after v) (digits (slice_index_or values (64 * v + i) d))
 
 -- ---- Clear
 -- one fraction alone as an extent, and its numerator
@@ -251,10 +321,15 @@ elem_of (Max limits) = U8
 abbrev pub last_op : List Op → Op
 last_op ops = op_at ops (length ops - 1)
 
+-- the numbers of a step are those of its operation, for whole numbers below some limits
+pub record IsStepBelow (bits : ℕ) (width : Width) (limits : ℕ → ℕ) (stage : Stage) (before : Form) (op : Op) (after : Form) : Type 0 where
+  pub step : IsStep bits width stage before op after
+  pub held : AreHeld width limits stage op after
+
 -- the steps before n, from the second operation on
 abbrev pub AreSteps : List Op → List Form → ℕ → Width → ℕ → Type 0
 AreSteps ops forms bits width n = (k : ℕ) → 0 < k → k < n
-    → IsStep bits width (stage_before ops k) (form_at forms (k - 1)) (op_at ops k) (form_at forms k)
+    → IsStepBelow bits width (limits_before ops k) (stage_before ops k) (form_at forms (k - 1)) (op_at ops k) (form_at forms k)
 
 abbrev pub AreFew : List Form → Type 0
 AreFew forms = (k : ℕ) → (form_at forms k).count ≤ 4

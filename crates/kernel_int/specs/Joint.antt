@@ -7,7 +7,7 @@ use Rattle.op_list.specs.declared.op.Op.{Op}
 use Rattle.op_list.specs.declared.op.Op.TheVariants.{Read, Write, SwapBytes, Unpack, Pack, Clear, LeftShift, RightShift, Swizzle}
 use Rattle.op_list.specs.declared.op.Op.TheVariants.{Convert, Dither, Linear, Scale, Min, Max}
 use Rattle.op_list.specs.Values.{entry, fraction_in}
-use Rattle.op_list.specs.Types.{is_rational}
+use Rattle.op_list.specs.Types.{bits_at, is_rational}
 use Rattle.op_list.specs.Typing.{are_typed, may_follow, are_good, stage_after}
 use Rattle.op_range.specs.declared.width.Width.{Width}
 use Rattle.op_range.specs.Width.{size_in, own_width_from, size_over, limited_size, width, width_after}
@@ -15,7 +15,7 @@ use Rattle.kernel_int.specs.declared.form.Extent.{Extent}
 use Rattle.kernel_int.specs.declared.form.Form.{Form}
 use Rattle.kernel_int.specs.declared.form.NumberWidth.{NumberWidth}
 use Rattle.kernel_int.specs.declared.form.NumberWidth.TheVariants.{Bits32, Bits64, Bits128}
-use Rattle.kernel_int.specs.Forms.{IsRow, IsStep, extent_at, factor, stage_before, width_of}
+use Rattle.kernel_int.specs.Forms.{AreHeld, IsRow, IsStep, extent_at, factor, stage_before, width_of}
 use Rattle.kernel_int.specs.ValueSteps.{IsIn, IsMade, is_by_value}
 
 -- how large the numbers of a width may be, so that all that is worked out with them fits it
@@ -191,4 +191,5 @@ pub record IsGiven (number_width : NumberWidth) (stage : Stage) (op : Op) (befor
 pub record IsJointStep (number_width : NumberWidth) (bits : ℕ) (stage : Stage) (before : Form) (op : Op) (after : Form) (next : Width) : Type 0 where
   pub few : after.count ≤ 4
   pub step : IsStep bits (width_of number_width) stage before op after
+  pub held : AreHeld (width_of number_width) (λ v. 2 ^ bits_at stage) stage op after
   pub joint : IsJoint (stage_after stage op) after next

@@ -1,6 +1,6 @@
 // A list of operations on a block of pixels.
 ghost use Rattle.std.specs.Prelude.{◌≡◌, ℕ, ◌+◌, ◌*◌, ◌-◌, ◌^◌, ◌<◌, ◌≤◌, ◌⊎◌, true, false, length};
-ghost use Rattle.std.specs.Prelude.{sum};
+ghost use Rattle.std.specs.Prelude.{sum, All};
 ghost use Rattle.std.specs.Prelude.{slice_index_or, List};
 ghost use Rattle.op_list.specs.Types.{bits, bits_at};
 ghost use Rattle.op_list.specs.Typing.{may_follow, are_good, stage_after, is_write};
@@ -9,7 +9,8 @@ ghost use Rattle.op_list.specs.declared.types.Stage.TheVariants.{Start};
 ghost use Rattle.op_list.specs.Values.{number, no_values};
 ghost use Rattle.op_list.specs.Run.{run_from};
 ghost use Rattle.kernel_int.specs.Block.{pixel_at, Holds, AreBelow, IsInRow};
-ghost use Rattle.kernel_int.specs.Forms.{IsKernel, IsState, IsBounded, form_at, stage_before};
+ghost use Rattle.kernel_int.specs.Forms.{AreRuns, IsKernel, IsState, IsBounded, form_at};
+ghost use Rattle.kernel_int.specs.Forms.{stage_before};
 ghost use Rattle.kernel_int.specs.Forms.{op_at, values_before, last_op, planes_of, elem_of};
 ghost use Rattle.kernel_int.specs.Planes.{AreRows, palette_length, row_element, row_frame};
 ghost use Rattle.kernel_int.specs.Planes.{row_list};
@@ -20,6 +21,7 @@ use crate::numerator::Numerator;
 use crate::palette::read_palette;
 use crate::planes::Planes;
 use crate::read::read_block;
+use crate::rest::clear_rest;
 use crate::step::step;
 use crate::whole_number::WholeNumber;
 use crate::write::write_block;
@@ -109,6 +111,8 @@ fn run_steps<W: WholeNumber, N: Numerator>(
         × (length numbers.old ≡ 256) × (length sums.old ≡ 256) }
     requires bounded { IsBounded W.number N.value (stage_before ops.now 1)
         (form_at forms.now 0) values.old numbers.old }
+    requires lanes { AreRuns W.number N.value ops.now 1 position.now
+        (form_at forms.now 0) values.old numbers.old }
     ensures bounded { IsBounded W.number N.value (stage_before ops.now (length ops.now - 1))
         (form_at forms.now (length ops.now - 2)) values.new numbers.new }
     ensures holds { (frame : List ℕ) (n : ℕ) → n ≤ 64
@@ -173,6 +177,22 @@ fn write_last<W: WholeNumber>(
     }
 }
 
+// The numbers of some bytes are below 256.
+fn are_bytes(bytes: &[u8])
+    ensures { All (λ byte. byte < 256) bytes.now }
+{}
+
+// The frame that the rows of planes make is one of bytes.
+fn hold_bytes(input: &Planes<'_>)
+    ensures { All (λ byte. byte < 256) (row_frame (rows_of input.now) input.now.palette.now) }
+{
+    are_bytes(input.first);
+    are_bytes(input.second);
+    are_bytes(input.third);
+    are_bytes(input.fourth);
+    are_bytes(input.palette);
+}
+
 // Runs the operations on the n pixels from a position on, and writes their elements.
 pub fn run_block<W: WholeNumber, N: Numerator>(
     ops: &[Op],
@@ -208,7 +228,9 @@ pub fn run_block<W: WholeNumber, N: Numerator>(
         ≡ row_element (elem_of (last_op ops.now)) (planes_of (last_op ops.now))
         (row_list first.old second.old third.old fourth.old) other v }
 {
+    hold_bytes(input);
     let stage = read_first(&ops[0], input, position, n, values);
+    clear_rest(n, values);
     run_steps(ops, forms, stage, position, values, spare, numbers, sums);
     write_last(
         &ops[ops.len() - 1],

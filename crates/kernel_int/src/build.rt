@@ -2,6 +2,7 @@
 ghost use Rattle.std.specs.Prelude.{◌≡◌, ◌≤◌, ◌<◌, ◌^◌, true, length, sum, IfOk, IfSome};
 ghost use Rattle.std.specs.Prelude.{None};
 ghost use Rattle.op_list.specs.Typing.{IsOpList, ends_with_write, is_write};
+ghost use Rattle.op_range.specs.States.{states_of};
 ghost use Rattle.op_range.specs.Width.{width};
 ghost use Rattle.kernel_int.specs.Forms.{AreStored, bits_of, planes_of};
 ghost use Rattle.kernel_int.specs.Joint.{room};
@@ -14,6 +15,7 @@ use crate::own_forms::forms_of;
 use crate::storage_of::storage_of;
 use frac_math::{Frac, OutOfMemory};
 use op_list::{Op, OpList, total};
+use op_range::StateRange;
 use std::alloc::Global;
 
 // The operations, one after the other.
@@ -33,17 +35,19 @@ fn copied(alloc: Global, ops: &[Op]) -> Result<Vec<Op>, OutOfMemory>
 pub fn in_number_width(
     alloc: Global,
     ops: &[Op],
+    ranges: &[StateRange],
     storage: Storage,
     number_width: NumberWidth,
 ) -> Result<Option<RowKernel>, OutOfMemory>
     requires sound { IsOpList ops.now }
     requires whole { ends_with_write ops.now ≡ true }
     requires some { 2 ≤ length ops.now }
+    requires ranges { ranges.now ≡ states_of ops.now }
     requires stored { AreStored ops.now (bits_of storage) }
     ensures { IfOk result (λ found. IfSome found (λ kernel. kernel ≡ ops.now)) }
 {
     let counts = counts_of(ops);
-    let Some(forms) = forms_of(alloc, ops, &counts, storage, number_width)? else {
+    let Some(forms) = forms_of(alloc, ops, ranges, &counts, storage, number_width)? else {
         return Ok(None);
     };
     if forms[ops.len() - 2].count < written(&ops[ops.len() - 1]) {
@@ -103,39 +107,46 @@ pub fn in_joint_numbers(
 fn in_few_bits(
     alloc: Global,
     ops: &[Op],
+    ranges: &[StateRange],
     storage: Storage,
 ) -> Result<Option<RowKernel>, OutOfMemory>
     requires sound { IsOpList ops.now }
     requires whole { ends_with_write ops.now ≡ true }
     requires some { 2 ≤ length ops.now }
+    requires ranges { ranges.now ≡ states_of ops.now }
     requires stored { AreStored ops.now (bits_of storage) }
     ensures kernel { IfOk result (λ found. IfSome found (λ kernel. kernel ≡ ops.now)) }
     ensures none { IfOk result (λ found. width ops.now < 2 ^ 62 → found ≡ None → ⊥) }
 {
-    if let Some(kernel) = in_number_width(alloc, ops, storage, NumberWidth::Bits32)? {
+    if let Some(kernel) = in_number_width(alloc, ops, ranges, storage, NumberWidth::Bits32)? {
         return Ok(Some(kernel));
     }
-    if let Some(kernel) = in_number_width(alloc, ops, storage, NumberWidth::Bits64)? {
+    if let Some(kernel) = in_number_width(alloc, ops, ranges, storage, NumberWidth::Bits64)? {
         return Ok(Some(kernel));
     }
     in_joint_numbers(alloc, ops, storage, NumberWidth::Bits64)
 }
 
 /// The kernel of a whole list that fits, in the narrowest numerators that hold all that it works
-/// out: at most 64 bits where the width is below 2^62. OutOfMemory comes where an allocation is
-/// refused.
+/// out: at most 64 bits where the width is below 2^62. The ranges are those of the list. OutOfMemory
+/// comes where an allocation is refused.
 #[tactic(auto, using(crate::proofs::Kernels::at_least_two))]
-pub fn compile(alloc: Global, list: &OpList) -> Result<RowKernel, OutOfMemory>
+pub fn compile(
+    alloc: Global,
+    list: &OpList,
+    ranges: &[StateRange],
+) -> Result<RowKernel, OutOfMemory>
     requires whole { ends_with_write list.now ≡ true }
     requires fits { width list.now < 2 ^ 126 }
+    requires ranges { ranges.now ≡ states_of list.now }
     ensures { IfOk result (λ kernel. kernel ≡ list.now) }
 {
     let ops = list.ops();
     let storage = storage_of(ops);
-    if let Some(kernel) = in_few_bits(alloc, ops, storage)? {
+    if let Some(kernel) = in_few_bits(alloc, ops, ranges, storage)? {
         return Ok(kernel);
     }
-    if let Some(kernel) = in_number_width(alloc, ops, storage, NumberWidth::Bits128)? {
+    if let Some(kernel) = in_number_width(alloc, ops, ranges, storage, NumberWidth::Bits128)? {
         return Ok(kernel);
     }
     match in_joint_numbers(alloc, ops, storage, NumberWidth::Bits128)? {

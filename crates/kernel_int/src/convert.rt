@@ -1,9 +1,10 @@
 // The values of a block in another type.
-ghost use Rattle.std.specs.Prelude.{◌≡◌, ◌≤◌, ◌<◌, ◌^◌, ℕ, true, length, IfSome};
+ghost use Rattle.std.specs.Prelude.{◌≡◌, ◌≤◌, ◌<◌, ◌^◌, ℕ, true, length, slice_index, IfSome};
 ghost use Rattle.op_list.specs.Types.{bits_at, is_whole, is_whole_type, is_rational};
 ghost use Rattle.op_list.specs.Typing.{may_follow, are_good, stage_after};
 ghost use Rattle.op_list.specs.declared.types.PixType.TheVariants.{Rat};
-ghost use Rattle.kernel_int.specs.Forms.{AreKept, AreNarrowed, AreWidened, IsBounded, IsStep};
+ghost use Rattle.kernel_int.specs.Forms.{AreHeld, AreKept, AreNarrowed, AreReady, AreWidened};
+ghost use Rattle.kernel_int.specs.Forms.{IsBounded, IsStep};
 ghost use Rattle.kernel_int.specs.Forms.{Performs, bits_of, width_of};
 
 use crate::form::{Form, NumberWidth, Storage, kept_form};
@@ -27,6 +28,8 @@ pub fn convert_step<W: WholeNumber, N: Numerator>(
 )
     requires follows { may_follow stage (Op.Convert to expand) ≡ true }
     requires step { IsStep W.bits N.width stage before.now (Op.Convert to expand) after.now }
+    requires ready { AreReady W.number N.width stage
+        (Op.Convert to expand) after.now values.old }
     requires stored { 2 ^ bits_at (stage_after stage (Op.Convert to expand)) ≤ 2 ^ W.bits }
     requires few { after.now.count ≤ 4 }
     requires block { (length values.old ≡ 256) × (length numbers.old ≡ 256) }
@@ -57,6 +60,8 @@ fn fractions_step<W: WholeNumber, N: Numerator>(
 )
     requires follows { may_follow stage (Op.Convert Rat expand) ≡ true }
     requires step { IsStep W.bits N.width stage before.now (Op.Convert Rat expand) after.now }
+    requires ready { AreReady W.number N.width stage
+        (Op.Convert Rat expand) after.now values.now }
     requires few { after.now.count ≤ 4 }
     requires block { (length values.now ≡ 256) × (length numbers.old ≡ 256) }
     requires bounded { IsBounded W.number N.value stage before.now values.now numbers.old }
@@ -105,8 +110,9 @@ fn whole_step<W: WholeNumber, N: Numerator>(
 /// The form after a Convert.
 pub fn convert_form(
     to: PixType,
-    _expand: bool,
+    expand: bool,
     stage: Stage,
+    limits: &[u64; 4],
     before: &Form,
     count: usize,
     storage: Storage,
@@ -115,7 +121,9 @@ pub fn convert_form(
     ensures few { IfSome result (λ form. form.count ≤ 4) }
     ensures step { IfSome result (λ form. IsStep (bits_of storage)
         (width_of number_width) stage before.now
-        (Op.Convert to _expand) form) }
+        (Op.Convert to expand) form) }
+    ensures held { IfSome result (λ form. AreHeld (width_of number_width)
+        (slice_index limits.now) stage (Op.Convert to expand) form) }
 {
     if stage.is_rational() {
         match to {
@@ -131,7 +139,7 @@ pub fn convert_form(
         }
     } else {
         match to {
-            PixType::Rat => widen_form(stage, before, count, number_width),
+            PixType::Rat => widen_form(expand, stage, limits, before, count, number_width),
             PixType::U8 | PixType::U16 | PixType::U32 => kept_form(before, count),
         }
     }

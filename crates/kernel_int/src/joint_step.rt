@@ -5,7 +5,8 @@ ghost use Rattle.op_list.specs.Types.{bits_at, is_rational, is_typed, is_whole_t
 ghost use Rattle.op_list.specs.Typing.{are_good, is_write, may_follow, stage_after};
 ghost use Rattle.op_range.specs.Width.{width_after};
 ghost use Rattle.kernel_int.specs.Forms.{AreKept, IsNarrowed, IsStep, IsWidened, bits_of};
-ghost use Rattle.kernel_int.specs.Forms.{IsCleared, extent_at, factor, factors_at, width_of};
+ghost use Rattle.kernel_int.specs.Forms.{AreHeld, IsCleared, extent_at, factor, factors_at};
+ghost use Rattle.kernel_int.specs.Forms.{width_of};
 ghost use Rattle.op_list.specs.Values.{entry};
 ghost use Rattle.kernel_int.specs.ValueSteps.{IsDivided};
 ghost use Rattle.kernel_int.specs.Joint.{AreSame, IsGiven, IsJoint, IsJointStep, IsSmall};
@@ -145,6 +146,7 @@ pub fn joint_form(
     ensures few { result.count ≤ 4 }
     ensures step { IsStep (bits_of _storage) (width_of number_width) stage
         before.now op.now result }
+    ensures held { AreHeld (width_of number_width) (λ v. 2 ^ bits_at stage) stage op.now result }
     ensures joint { IsJoint (stage_after stage op.now) result next.now }
 {
     stepped(op, stage, before, width, next, number_width)

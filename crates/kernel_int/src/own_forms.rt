@@ -1,12 +1,15 @@
 // The numbers of a kernel, each value over its own denominator.
-ghost use Rattle.std.specs.Prelude.{◌≡◌, ◌≤◌, ◌-◌, ◌+◌, ◌<◌, length, IfOk, IfSome};
+ghost use Rattle.std.specs.Prelude.{◌≡◌, ◌≤◌, ◌-◌, ◌+◌, ◌<◌, length, slice_index, IfOk};
+ghost use Rattle.std.specs.Prelude.{IfSome};
 ghost use Rattle.op_list.specs.Typing.{IsOpList};
-ghost use Rattle.kernel_int.specs.Forms.{AreFew, AreSteps, IsStep, bits_of, width_of};
+ghost use Rattle.op_range.specs.States.{states_of};
+ghost use Rattle.kernel_int.specs.Forms.{AreFew, AreHeld, AreSteps, IsStep, bits_of, width_of};
 
 use crate::clear::clear_form;
 use crate::convert::convert_form;
 use crate::dither::parts_wanted;
 use crate::form::{Form, NumberWidth, Storage, kept_form, whole_form};
+use crate::limits::limits_of;
 use crate::linear::linear_form;
 use crate::pack::pack_form;
 use crate::swizzle::swizzle_form;
@@ -14,13 +17,15 @@ use crate::unpack::unpack_form;
 use crate::value_form::value_form;
 use frac_math::OutOfMemory;
 use op_list::{Op, Stage};
+use op_range::StateRange;
 use std::alloc::Global;
 
-// The form after an operation, where a block of this width of numbers holds all its numbers. `also`
-// divides the denominators of a Linear.
+// The form after an operation, where a block of this width of numbers holds all its numbers. The
+// whole numbers before it are below the limits. `also` divides the denominators of a Linear.
 fn form_after(
     op: &Op,
     stage: Stage,
+    limits: &[u64; 4],
     before: &Form,
     count: usize,
     storage: Storage,
@@ -30,6 +35,8 @@ fn form_after(
     ensures few { IfSome result (λ form. form.count ≤ 4) }
     ensures step { IfSome result (λ form. IsStep (bits_of storage)
         (width_of number_width) stage before.now op.now form) }
+    ensures held { IfSome result (λ form. AreHeld (width_of number_width)
+        (slice_index limits.now) stage op.now form) }
 {
     match op {
         Op::Read { .. } => None,
@@ -45,6 +52,7 @@ fn form_after(
             *to,
             *expand,
             stage,
+            limits,
             before,
             count,
             storage,
@@ -73,12 +81,14 @@ fn wanted_behind(ops: &[Op], k: usize) -> i128
 pub fn forms_of(
     alloc: Global,
     ops: &[Op],
+    ranges: &[StateRange],
     counts: &[usize; 24],
     storage: Storage,
     number_width: NumberWidth,
 ) -> Result<Option<Vec<Form>>, OutOfMemory>
     requires sound { IsOpList ops.now }
     requires some { 2 ≤ length ops.now }
+    requires ranges { ranges.now ≡ states_of ops.now }
     ensures size { IfOk result (λ found. IfSome found (λ forms. length forms.items
         ≡ length ops.now)) }
     ensures few { IfOk result (λ found. IfSome found (λ forms. AreFew forms.items)) }
@@ -89,10 +99,12 @@ pub fn forms_of(
     forms.push(whole_form(4))?;
     let mut stage = ops[0].stage_after(Stage::Start);
     for k in 1..ops.len() - 1 {
+        let limits = limits_of(&ranges[k - 1], stage.bits());
         let also = wanted_behind(ops, k);
         match form_after(
             &ops[k],
             stage,
+            &limits,
             &forms[k - 1],
             counts[k],
             storage,

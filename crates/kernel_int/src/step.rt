@@ -1,7 +1,7 @@
 ghost use Rattle.std.specs.Prelude.{◌≡◌, ◌≤◌, ◌^◌, true, length};
 ghost use Rattle.op_list.specs.Types.{bits_at};
 ghost use Rattle.op_list.specs.Typing.{may_follow, are_good, stage_after};
-ghost use Rattle.kernel_int.specs.Forms.{IsBounded, IsStep, Performs};
+ghost use Rattle.kernel_int.specs.Forms.{AreReady, IsBounded, IsStep, Performs};
 
 use crate::clear::clear_step;
 use crate::convert::convert_step;
@@ -33,6 +33,7 @@ pub fn step<W: WholeNumber, N: Numerator>(
     requires follows { may_follow stage op.now ≡ true }
     requires good { are_good stage op.now ≡ true }
     requires step { IsStep W.bits N.width stage before.now op.now after.now }
+    requires ready { AreReady W.number N.width stage op.now after.now values.old }
     requires stored { 2 ^ bits_at (stage_after stage op.now) ≤ 2 ^ W.bits }
     requires few { after.now.count ≤ 4 }
     requires block { (length values.old ≡ 256) × (length spare.old ≡ 256)

@@ -13,7 +13,7 @@ use crate::storage_of::storage_of;
 use crate::{RowKernel, compile};
 use frac_math::{Frac, OutOfMemory};
 use op_list::{Op, OpList, PixType, PushFault, total};
-use op_range::fits;
+use op_range::{fits, ranges};
 use std::alloc::Global;
 
 // The list of these operations.
@@ -142,7 +142,10 @@ fn agrees_as_list(alloc: Global, list: &OpList, copy: &OpList, width: u32, rows:
     if !fits(list) {
         return false;
     }
-    let Ok(kernel) = compile(alloc, list) else {
+    let Ok(states) = ranges(alloc, list) else {
+        return false;
+    };
+    let Ok(kernel) = compile(alloc, list, &states) else {
         return false;
     };
     let storage = storage_of(ops);
@@ -166,9 +169,12 @@ fn needs_joint_numbers(alloc: Global, ops: &[Op]) -> bool {
     if !list.whole() || list.ops().len() < 2 {
         return false;
     }
+    let Ok(states) = ranges(alloc, &list) else {
+        return false;
+    };
     let ops = list.ops();
     let storage = storage_of(ops);
-    let Ok(own) = in_number_width(alloc, ops, storage, NumberWidth::Bits64) else {
+    let Ok(own) = in_number_width(alloc, ops, &states, storage, NumberWidth::Bits64) else {
         return false;
     };
     let Ok(joint) = in_joint_numbers(alloc, ops, storage, NumberWidth::Bits64) else {
@@ -399,4 +405,42 @@ fn joint_in_64_bits(rt: HostRuntime) {
     ];
     assert!(rt; needs_joint_numbers(rt.alloc(), &ops));
     assert!(rt; agrees_in_all_widths(rt.alloc(), &ops));
+}
+
+// Whether the kernel of a list works with numerators of 32 bits.
+fn is_narrow(alloc: Global, ops: &[Op]) -> bool {
+    let Ok(list) = list_of(alloc, ops) else {
+        return false;
+    };
+    if !list.whole() || !fits(&list) {
+        return false;
+    }
+    let Ok(states) = ranges(alloc, &list) else {
+        return false;
+    };
+    match compile(alloc, &list, &states) {
+        Ok(kernel) => matches!(kernel.number_width, NumberWidth::Bits32),
+        Err(_) => false,
+    }
+}
+
+#[test]
+fn parts_of_words(rt: HostRuntime) {
+    // How many bits of a word there are decides the numerators, and not its type.
+    for (n, narrow) in [(6, true), (0, false)] {
+        let parts = [
+            read(PixType::U16, [1, 1, 1, 0]),
+            Op::LeftShift { n },
+            Op::RightShift { n },
+            convert(PixType::Rat),
+            Op::Scale {
+                by: quotient(200_003, 1_000_003),
+            },
+            Op::Dither { k: 1 },
+            convert(PixType::U8),
+            write(PixType::U8, [3, 0, 0, 0]),
+        ];
+        assert!(rt; agrees_in_all_widths(rt.alloc(), &parts), "{n}");
+        assert!(rt; is_narrow(rt.alloc(), &parts) == narrow, "{n}");
+    }
 }

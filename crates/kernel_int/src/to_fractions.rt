@@ -1,9 +1,11 @@
 // Whole numbers become fractions.
 ghost use Rattle.std.specs.Prelude.{◌≡◌, ℕ, ◌+◌, ◌*◌, ◌^◌, ◌<◌, ◌≤◌, pos, length, slice_index_or};
+ghost use Rattle.std.specs.Prelude.{slice_index};
 ghost use Rattle.std.specs.Prelude.{IfSome, FitsSigned};
 ghost use Rattle.op_list.specs.declared.types.PixType.TheVariants.{Rat};
 ghost use Rattle.op_list.specs.Typing.{stage_after};
-ghost use Rattle.kernel_int.specs.Forms.{AreWidened, IsBounded, IsWidened, Performs, width_of};
+ghost use Rattle.kernel_int.specs.Forms.{AreHeld, AreReady, AreWidened, IsBounded, IsWidened};
+ghost use Rattle.kernel_int.specs.Forms.{Performs, extent_at, width_of};
 
 use crate::form::{Extent, Form, NO_DIVISOR, NumberWidth};
 use crate::interval::fits;
@@ -36,7 +38,9 @@ pub fn widen_step<W: WholeNumber, N: Numerator>(
     values: &[W],
     numbers: &mut [N],
 )
-    requires widened { AreWidened N.width stage before.now after.now }
+    requires widened { AreWidened stage before.now after.now }
+    requires ready { AreReady W.number N.width stage
+        (Op.Convert Rat expand) after.now values.now }
     requires few { after.now.count ≤ 4 }
     requires block { (length values.now ≡ 256) × (length numbers.old ≡ 256) }
     requires bounded { IsBounded W.number N.value stage before.now values.now numbers.old }
@@ -51,14 +55,17 @@ pub fn widen_step<W: WholeNumber, N: Numerator>(
 
 /// The form after a Convert of whole numbers to fractions.
 pub fn widen_form(
+    _expand: bool,
     stage: Stage,
+    limits: &[u64; 4],
     before: &Form,
     count: usize,
     number_width: NumberWidth,
 ) -> Option<Form>
     ensures few { IfSome result (λ form. form.count ≤ 4) }
-    ensures widened { IfSome result (λ form. AreWidened
-        (width_of number_width) stage before.now form) }
+    ensures widened { IfSome result (λ form. AreWidened stage before.now form) }
+    ensures held { IfSome result (λ form. AreHeld (width_of number_width)
+        (slice_index limits.now) stage (Op.Convert Rat _expand) form) }
 {
     if count > 4 {
         return None;
@@ -69,25 +76,35 @@ pub fn widen_form(
     if !stage.is_whole() {
         return None;
     }
-    let extent = widened(stage.bits(), number_width)?;
-    Some(Form {
-        count,
-        extents: [extent; 4],
-        factors: [[0; 5]; 4],
-        divisors: [NO_DIVISOR; 4],
-    })
+    let [first, second, third, fourth] = *limits;
+    let first = widened(first, number_width)?;
+    let second = widened(second, number_width)?;
+    let third = widened(third, number_width)?;
+    let fourth = widened(fourth, number_width)?;
+    Some(form_of(count, first, second, third, fourth))
 }
 
-// The whole numbers of so many bits, over 1.
-fn widened(bits: u32, number_width: NumberWidth) -> Option<Extent>
-    ensures { IfSome result (λ extent. IsWidened (width_of number_width) (2 ^ bits) extent) }
+// The form of the first values with these extents.
+fn form_of(count: usize, first: Extent, second: Extent, third: Extent, fourth: Extent) -> Form
+    ensures count { result.count ≡ count }
+    ensures first { extent_at result 0 ≡ first }
+    ensures second { extent_at result 1 ≡ second }
+    ensures third { extent_at result 2 ≡ third }
+    ensures fourth { extent_at result 3 ≡ fourth }
 {
-    let greatest = match bits {
-        8 => 255,
-        16 => 65_535,
-        32 => 4_294_967_295,
-        _ => return None,
-    };
+    Form {
+        count,
+        extents: [first, second, third, fourth],
+        factors: [[0; 5]; 4],
+        divisors: [NO_DIVISOR; 4],
+    }
+}
+
+// The whole numbers below a limit, over 1.
+fn widened(limit: u64, number_width: NumberWidth) -> Option<Extent>
+    ensures { IfSome result (λ extent. IsWidened (width_of number_width) limit extent) }
+{
+    let greatest = i128::from(limit) - 1;
     if !fits(greatest, number_width) {
         return None;
     }

@@ -24,7 +24,12 @@ pub type Conversion = (
     u8,
 );
 
-const CONVERSIONS: [Conversion; 12] = [
+const CONVERSIONS: [Conversion; 13] = [
+    (
+        ("yuv444p10le", "bt709", Range::Limited),
+        ("rgb24", "bt709", Range::Full),
+        0,
+    ),
     (
         ("yuva444p16le", "bt709", Range::Full),
         ("p412be", "bt2020", Range::Limited),

@@ -13,6 +13,7 @@ use kernel_int::{RowKernel, compile};
 use op_build::{BuildFault, build};
 use op_list::OpList;
 use op_opt::{NormalList, optimise};
+use op_range::ranges;
 use op_text::print;
 use pix_meaning::Pair;
 use std::alloc::Global;
@@ -48,7 +49,10 @@ fn kernel_of(alloc: Global, list: &OpList) -> Result<RowKernel, BuildFault>
     ensures ok { IfOk result (λ kernel. kernel ≡ list.now) }
     ensures fault { IfErr result (λ fault. fault ≡ BuildFault.OutOfMemory) }
 {
-    match compile(alloc, list) {
+    let Ok(states) = ranges(alloc, list) else {
+        return Err(BuildFault::OutOfMemory);
+    };
+    match compile(alloc, list, &states) {
         Ok(kernel) => Ok(kernel),
         Err(_) => Err(BuildFault::OutOfMemory),
     }

@@ -1,4 +1,4 @@
-use Rattle.std.proofs.Common.{◌≡◌, ◌<◌, ◌-◌, ◌≤◌, length, sym, ◌∙◌, arith, ap}
+use Rattle.std.proofs.Common.{◌≡◌, ◌<◌, ◌-◌, ◌^◌, ◌≤◌, length, sym, ◌∙◌, arith, ap}
 use Rattle.std.proofs.lemmas.List.{get_or_default}
 use Rattle.op_list.specs.declared.op.Op.TheVariants.{SwapBytes}
 use Rattle.op_list.specs.declared.types.Stage.TheVariants.{Start}
@@ -8,6 +8,8 @@ use Rattle.kernel_int.specs.Forms.{form_at, stage_before, op_at, last_op, elem_o
 use Rattle.kernel_int.specs.Planes.{row_frame, rows_of}
 use Rattle.kernel_int.proofs.Kernels.{at_least_two, first_follows, first_good, first_stage, first_state, first_bounded}
 use Rattle.kernel_int.proofs.Kernels.{written_run, last_good, last_whole, last_bits, last_writes, some_element}
+use Rattle.std.proofs.lemmas.Nat.{pow_pos}
+use Rattle.kernel_int.proofs.RunLimits.{first_lanes, rest_below}
 use Rattle.kernel_int.proofs.block.run_block.Goals as goal
 
 pub bounds-ops-0 : goal.bounds-ops-0
@@ -64,8 +66,21 @@ run_steps-requires-clause-bounded g c =
     in omega arith in
     let same : c.index-ops-0.result ≡ op_at c.args.ops.now 0 = c.index-ops-0.is ∙ get_or_default c.args.ops.now 0 _ SwapBytes some in
     first_bounded g.W.WholeNumber.number g.N.Numerator.value c.args.ops.now
-    (form_at c.args.forms.now 0) c.read_first-stage.new.values c.args.numbers.now c.requires.kernel.typed some (c.requires.kernel.few 0)
-    (rw same at c.read_first-stage.ensures.small)
+    (form_at c.args.forms.now 0) c.clear_rest.new.values c.args.numbers.now c.requires.kernel.typed some (c.requires.kernel.few 0)
+    (rest_below g.W.WholeNumber.number c.read_first-stage.new.values c.clear_rest.new.values c.args.n
+    (2 ^ bits_at (stage_after Start (op_at c.args.ops.now 0))) (pow_pos (bits_at (stage_after Start (op_at c.args.ops.now 0))))
+    (rw same at c.read_first-stage.ensures.small) c.clear_rest.ensures.kept c.clear_rest.ensures.zero)
+
+pub run_steps-requires-clause-lanes : goal.run_steps-requires-clause-lanes
+run_steps-requires-clause-lanes g c =
+    let ops = c.args.ops.now in
+    let input = c.args.input.now in
+    let some : 0 < length ops = let two = at_least_two ops c.requires.kernel.whole c.requires.kernel.typed in omega arith in
+    let same : c.index-ops-0.result ≡ op_at ops 0 = c.index-ops-0.is ∙ get_or_default ops 0 _ SwapBytes some in
+    first_lanes g.W.WholeNumber.number g.N.Numerator.value ops (form_at c.args.forms.now 0)
+    (row_frame (rows_of input) input.palette.now) c.args.position.now c.read_first-stage.new.values
+    c.clear_rest.new.values c.args.numbers.now c.args.n c.requires.kernel.typed some (c.requires.kernel.few 0)
+    c.hold_bytes.ensures (rw same at c.read_first-stage.ensures.set) c.clear_rest.ensures.kept c.clear_rest.ensures.zero
 
 pub overflow_sub-ops : goal.overflow_sub-ops
 overflow_sub-ops g c = let two = at_least_two c.args.ops.now c.requires.kernel.whole c.requires.kernel.typed in omega arith
@@ -120,8 +135,10 @@ returns-clause-stored g c =
     let d = some_element c.run_steps.new.values (omega arith) in
     let frame = row_frame (rows_of c.args.input.now) c.args.input.now.palette.now in
     let start = first_state g.W.WholeNumber.number g.N.Numerator.value ops
-    (form_at c.args.forms.now 0) frame c.args.position.now c.read_first-stage.new.values c.args.numbers.now c.args.n
-    c.requires.kernel.typed some (c.requires.kernel.few 0) (rw first at c.read_first-stage.ensures.set) in
+    (form_at c.args.forms.now 0) frame c.args.position.now c.clear_rest.new.values c.args.numbers.now c.args.n
+    c.requires.kernel.typed some (c.requires.kernel.few 0)
+    (λ v i d below within. ap g.W.WholeNumber.number (c.clear_rest.ensures.kept v i d below within)
+    ∙ (rw first at c.read_first-stage.ensures.set) v i d below within) in
     let state = c.run_steps.ensures.holds frame c.args.n (omega arith) start in
     let stored = rw same at c.write_last.ensures.stored in
     stored v i d below within

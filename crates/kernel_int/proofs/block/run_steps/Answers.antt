@@ -1,9 +1,12 @@
-use Rattle.std.proofs.Common.{◌≡◌, ◌<◌, ◌+◌, ◌-◌, length, sym, ◌∙◌, arith, ap, subst}
+use Rattle.std.proofs.Common.{◌≡◌, ℕ, ◌<◌, ◌+◌, ◌-◌, List, [], length, sym, ◌∙◌, arith, ap, subst}
 use Rattle.std.proofs.lemmas.List.{get_or_default}
 use Rattle.op_list.specs.declared.op.Op.TheVariants.{SwapBytes}
 use Rattle.op_list.specs.Typing.{stage_after}
+use Rattle.op_list.specs.Apply.{apply}
+use Rattle.kernel_int.specs.Block.{pixel_at}
 use Rattle.kernel_int.specs.Forms.{form_at, stage_before, values_before, op_at, IsState, IsBounded}
 use Rattle.kernel_int.proofs.Kernels.{follows_at, good_at, stage_more, state_more, bounded_more}
+use Rattle.kernel_int.proofs.RunLimits.{apply_alike, runs_ready}
 use Rattle.kernel_int.proofs.block.run_steps.Goals as goal
 
 pub step-requires-clause-follows : goal.step-requires-clause-follows
@@ -27,11 +30,32 @@ step-requires-clause-stored g c =
     ∙ get_or_default c.args.ops.now c.loop-k.k _ SwapBytes within in
     rw (c.loop-k.invariant.stage, same, ← stage_more c.args.ops.now c.loop-k.k within) (c.requires.kernel.wide (c.loop-k.k + 1))
 
+pub step-requires-clause-ready : goal.step-requires-clause-ready
+step-requires-clause-ready g c =
+    let ops = c.args.ops.now in
+    let forms = c.args.forms.now in
+    let k = c.loop-k.k in
+    let within : k < length ops = omega arith in
+    let same : c.index-ops-k.result ≡ op_at ops k = c.index-ops-k.is ∙ get_or_default ops k _ SwapBytes within in
+    rw (c.loop-k.invariant.stage, same)
+    (runs_ready g.W.WholeNumber.number g.N.Numerator.value g.W.WholeNumber.bits g.N.Numerator.width ops k c.args.position.now
+    (form_at forms (k - 1)) (form_at forms k) c.loop-k.values c.loop-k.numbers c.requires.kernel.typed c.requires.kernel.whole
+    (omega arith) within (c.requires.kernel.few (k - 1)) c.loop-k.invariant.lanes c.loop-k.invariant.bounded
+    (c.requires.kernel.steps k (omega arith) (omega arith)))
+
 pub loop-k-preserved : goal.loop-k-preserved
 loop-k-preserved g c =
     let ops = c.args.ops.now in
+    let forms = c.args.forms.now in
     let k = c.loop-k.k in
+    let position = c.args.position.now in
     let within : k < length ops = omega arith in
+    let numbers_of = c.requires.kernel.steps k (omega arith) (omega arith) in
+    let alike : (frames : ℕ → List ℕ) (i : ℕ)
+    → apply [] (pixel_at position i) (stage_before ops k) (op_at ops k) (values_before ops (frames i) position k i)
+    ≡ apply (frames i) (pixel_at position i) (stage_before ops k) (op_at ops k) (values_before ops (frames i) position k i) =
+    λ frames i. apply_alike g.W.WholeNumber.bits g.N.Numerator.width (stage_before ops k) (form_at forms (k - 1)) (op_at ops k)
+    (form_at forms k) numbers_of.step [] (frames i) (pixel_at position i) (values_before ops (frames i) position k i) in
     let same : c.index-ops-k.result ≡ op_at ops k = c.index-ops-k.is ∙ get_or_default ops k _ SwapBytes within in
     let again : c.index-ops-k-in-loop-k.result ≡ op_at ops k = c.index-ops-k-in-loop-k.is ∙ get_or_default ops k _ SwapBytes within in
     record {
@@ -40,10 +64,18 @@ loop-k-preserved g c =
       bounded = bounded_more g.W.WholeNumber.number g.N.Numerator.value ops c.args.forms.now k c.loop-k.stage c.index-ops-k.result
           c.step.new.values c.step.new.numbers
           c.loop-k.invariant.stage same within c.step.ensures.bounded;
+      lanes = record {
+        frames = c.loop-k.invariant.lanes.frames;
+        bytes = c.loop-k.invariant.lanes.bytes;
+        state = state_more g.W.WholeNumber.number g.N.Numerator.value ops forms position c.loop-k.invariant.lanes.frames k c.loop-k.stage
+            c.index-ops-k.result c.loop-k.values c.step.new.values c.loop-k.numbers c.step.new.numbers
+            c.requires.kernel.typed c.loop-k.invariant.stage same within (alike c.loop-k.invariant.lanes.frames) c.step.ensures.holds
+            64 (omega arith) c.loop-k.invariant.lanes.state;
+      };
       holds = λ frame n most start.
-          state_more g.W.WholeNumber.number g.N.Numerator.value ops c.args.forms.now c.args.position.now k c.loop-k.stage
+          state_more g.W.WholeNumber.number g.N.Numerator.value ops forms position (λ i. frame) k c.loop-k.stage
           c.index-ops-k.result c.loop-k.values c.step.new.values c.loop-k.numbers c.step.new.numbers
-          c.requires.kernel.typed c.loop-k.invariant.stage same within c.step.ensures.holds frame n most
+          c.requires.kernel.typed c.loop-k.invariant.stage same within (alike (λ i. frame)) c.step.ensures.holds n most
           (c.loop-k.invariant.holds frame n most start);
     }
 
