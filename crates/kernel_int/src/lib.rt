@@ -41,7 +41,6 @@ mod read;
 mod right_shift;
 mod row;
 mod row_form;
-mod rule;
 mod scale;
 mod scatter;
 mod single;
