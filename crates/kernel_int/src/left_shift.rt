@@ -25,7 +25,8 @@ impl<W: WholeNumber> Change<W> for ShiftedLeft {
 
     fn changed(self, x: W) -> W {
         let above = W::size() - self.bits;
-        x.shifted_left(u32::from(self.n) + above).shifted_right(above)
+        x.shifted_left(u32::from(self.n) + above)
+            .shifted_right(above)
     }
 }
 

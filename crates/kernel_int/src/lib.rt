@@ -10,6 +10,7 @@ mod counts;
 mod cut;
 mod dither;
 mod element;
+mod fields;
 mod form;
 mod gather;
 mod interval;

@@ -44,3 +44,26 @@ pub fn merge_front<A: Copy, B: Copy, R: Merge<A, B>>(rule: R, to: &mut [B], from
         to[j] = rule.merged(to[j], from[j]);
     }
 }
+
+/// Changes the N elements from `at` on by those of the same row from `start` on, which stand behind
+/// them.
+pub fn merge_within<T: Copy, R: Merge<T, T>, const N: usize>(
+    rule: R,
+    v: &mut [T],
+    at: usize,
+    start: usize,
+)
+    requires apart { at + N ≤ start }
+    requires room { start + N ≤ length v.old }
+    requires takes { (k : ℕ) (x y : T) → k < N
+        → R.takes rule (slice_index_or v.old (at + k) x) (slice_index_or v.old (start + k) y) }
+    ensures set { (k : ℕ) (x y z : T) → k < N
+        → R.makes rule (slice_index_or v.old (at + k) x) (slice_index_or v.old (start + k) y)
+        (slice_index_or v.new (at + k) z) }
+    ensures kept { (i : ℕ) (x : T)
+        → (i < at) ⊎ (at + N ≤ i) → slice_index_or v.new i x ≡ slice_index_or v.old i x }
+{
+    for k in 0..N {
+        v[at + k] = rule.merged(v[at + k], v[start + k]);
+    }
+}

@@ -10,10 +10,10 @@ change_front-requires-clause-takes g c =
     λ j x below. (
       rw c.bits.ensures (swap_bits c.args.stage c.requires.follows),
       mapped_fits g.W.WholeNumber.number g.N.Numerator.value g.W.WholeNumber.bits c.args.stage SwapBytes
-    (λ m. reversed_bytes (c.bits.result / 8) m) c.args.before.now c.args.after.now c.args.values.now c.args._numbers.now
-    (swap_map c.args.stage c.bits.result c.bits.ensures c.requires.follows c.requires.good) c.requires.step c.requires.stored
-    c.requires.bounded
-      j x below,
+          (λ m. reversed_bytes (c.bits.result / 8) m) c.args.before.now c.args.after.now c.args.values.now c.args._numbers.now
+          (swap_map c.args.stage c.bits.result c.bits.ensures c.requires.follows c.requires.good) c.requires.step c.requires.stored
+          c.requires.bounded
+          j x below,
     )
 
 pub returns-clause-bounded : goal.returns-clause-bounded
