@@ -20,6 +20,7 @@ use Rattle.kernel_int.specs.declared.form.Form.{Form}
 use Rattle.kernel_int.specs.Forms.{IsBounded, Performs}
 use Rattle.kernel_int.proofs.Fours.{four_at}
 use Rattle.kernel_int.proofs.Intervals.{four_cases}
+use Rattle.kernel_int.proofs.Shifts.{power_order}
 
 counts_fit : (most : ℕ) (ns : List ℕ) → are_counts most ns ≡ true → sum ns ≤ most
 counts_fit most ns h = let p = and_parts (are_in_front ns && nat_le 1 (sum ns)) (nat_le (sum ns) most) h in leb-true _ _ p.1
@@ -45,6 +46,21 @@ below_most widths v size small =
     four_cases (λ t. bits_below widths t ≤ sum widths) v small
     (omega (arith, all, bits_below_first widths size)) (omega (arith, all, bits_below_second widths size))
     (omega (arith, all, bits_below_third widths size)) (omega (arith, all, bits_below_fourth widths size))
+
+-- a field and what lies below it
+pub field_room : (widths : List ℕ) (v : ℕ) → length widths ≡ 4 → v < 4 → bits_below widths v + slice_index widths v ≤ sum widths
+field_room widths v size small =
+    let all = sum_four widths size in
+    four_cases (λ t. bits_below widths t + slice_index widths t ≤ sum widths) v small
+    (omega (arith, all, bits_below_first widths size)) (omega (arith, all, bits_below_second widths size))
+    (omega (arith, all, bits_below_third widths size)) (omega (arith, all, bits_below_fourth widths size))
+
+-- the storage has room for each field
+pub unpack_room : (stage : Stage) (widths : List ℕ) (v most : ℕ) → length widths ≡ 4 → v < 4 → are_good stage (Unpack widths) ≡ true
+    → 2 ^ bits_at (stage_after stage (Unpack widths)) ≤ 2 ^ most → bits_below widths v + slice_index widths v ≤ most
+unfolding stage_after
+unpack_room stage widths v most size small good stored =
+    omega (arith, field_room widths v size small, unpack_sum stage widths good, power_order (bits_at stage) most stored)
 
 pub field_small : (widths : List ℕ) (n v bits : ℕ) → length widths ≡ 4 → v < 4 → sum widths ≤ bits
     → n / 2 ^ bits_below widths v % 2 ^ slice_index widths v < 2 ^ bits

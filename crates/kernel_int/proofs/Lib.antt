@@ -40,5 +40,6 @@ pub mod Sixteens
 pub mod Swizzles
 pub mod ValueBlocks
 pub mod ValueFractions
+pub mod Shifts
 pub mod WholeSteps
 pub mod Written

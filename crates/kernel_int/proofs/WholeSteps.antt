@@ -1,7 +1,8 @@
 -- Which operations make each whole number of one.
-use Rattle.std.proofs.Common.{◌≡◌, ℕ, ◌*◌, ◌/◌, ◌%◌, ◌^◌, ◌<◌, ◌⊎◌, ⊎_elim, Bool, true, false, slice_index, refl, sym}
+use Rattle.std.proofs.Common.{◌≡◌, ℕ, ◌*◌, ◌/◌, ◌%◌, ◌^◌, ◌<◌, ◌≤◌, ◌⊎◌, ⊎_elim, Bool, true, false, slice_index, refl, sym}
 use Rattle.std.proofs.Common.{arith, subst}
 use Rattle.std.specs.Prelude.{if◌then◌else◌}
+use Rattle.std.proofs.lemmas.Bool.{ltb-true}
 use Rattle.std.proofs.lemmas.Nat.{pow_pos}
 use Rattle.std.proofs.Math.Nat.{mod-lt, div-le_self}
 use Rattle.op_list.specs.declared.types.PixType.{PixType}
@@ -18,6 +19,7 @@ use Rattle.op_list.specs.Apply.{apply, converted}
 use Rattle.op_list.proofs.Applied.{whole_before, wide_bits}
 use Rattle.op_list.proofs.ReversedBytes.{reversed_bytes-below}
 use Rattle.kernel_int.proofs.Fours.{four_at}
+use Rattle.kernel_int.proofs.Shifts.{power_order}
 use Rattle.kernel_int.proofs.MappedSteps.{IsMap}
 
 pub swap_bits : (stage : Stage) → may_follow stage SwapBytes ≡ true → (bits_at stage ≡ 16) ⊎ (bits_at stage ≡ 32)
@@ -37,6 +39,16 @@ swap_map stage count same follows good = subst (λ b. IsMap stage SwapBytes (λ 
       (λ (is : bits_at stage ≡ 32). rw is (reversed_bytes-below 4 m))
       (swap_bits stage follows);
 })
+
+-- the storage has room for the bits of a stage
+pub left_room : (stage : Stage) (n most : ℕ) → 2 ^ bits_at (stage_after stage (LeftShift n)) ≤ 2 ^ most → bits_at stage ≤ most
+unfolding stage_after
+left_room stage n most stored = power_order (bits_at stage) most stored
+
+pub right_room : (stage : Stage) (n most : ℕ) → are_good stage (RightShift n) ≡ true
+    → 2 ^ bits_at (stage_after stage (RightShift n)) ≤ 2 ^ most → n < most
+unfolding are_good stage_after
+right_room stage n most good stored = omega (arith, ltb-true n (bits_at stage) good, power_order (bits_at stage) most stored)
 
 pub left_map : (stage : Stage) (n count : ℕ) → count ≡ bits_at stage → may_follow stage (LeftShift n) ≡ true
     → are_good stage (LeftShift n) ≡ true → IsMap stage (LeftShift n) (λ m. m * 2 ^ n % 2 ^ count)

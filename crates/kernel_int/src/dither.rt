@@ -13,7 +13,7 @@ use crate::made::Made;
 use crate::numerator::Numerator;
 use crate::row_form::{difference_of, whole_quotient};
 use crate::scale::{multiple_for, multiplied, numerator, scale};
-use kernel_lane::{Merge, merge_few};
+use kernel_lane::{Merge, merge_few, merge_part};
 use op_list::{Op, PixelPosition};
 
 // The number in the index matrix of 2 by 2, in the column and the row of the lowest digits.
@@ -70,6 +70,23 @@ fn dither_numbers(k: u8, x: u32, y: u32) -> [u32; 16]
     numbers
 }
 
+// A number of parts times the unit.
+#[derive(Clone, Copy)]
+struct Addend<N> {
+    unit: N,
+}
+
+impl<N: Numerator> Merge<u32, N> for Addend<N> {
+    ghost takes = { λ r _ m. FitsSigned N.width (pos m)
+        × FitsSigned N.width (N.value r.unit *ℤ pos m) };
+
+    ghost makes = { λ r _ m y. N.value y ≡ N.value r.unit *ℤ pos m };
+
+    fn merged(self, _old: N, from: u32) -> N {
+        N::of(i128::from(from)).times(self.unit)
+    }
+}
+
 // The numbers of a pattern times a unit, as addends.
 fn fill_addends<N: Numerator>(pattern: &[u32], unit: N, addends: &mut [N])
     requires size { (length pattern.now ≡ 16) × (length addends.old ≡ 256) }
@@ -79,9 +96,7 @@ fn fill_addends<N: Numerator>(pattern: &[u32], unit: N, addends: &mut [N])
     ensures { (j : ℕ) (d : N) → j < 16 → N.value (slice_index_or addends.new j d)
         ≡ N.value unit *ℤ pos (slice_index pattern.now j) }
 {
-    for j in 0..16 {
-        addends[j] = N::of(i128::from(pattern[j])).times(unit);
-    }
+    merge_part::<u32, N, Addend<N>, 16>(Addend { unit }, addends, 0, pattern, 0);
 }
 
 // The sum of two numbers.

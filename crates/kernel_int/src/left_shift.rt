@@ -7,24 +7,26 @@ ghost use Rattle.kernel_int.specs.Forms.{IsBounded, IsStep, Performs};
 
 use crate::form::Form;
 use crate::numerator::Numerator;
-use crate::rule::{NumberRule, map_values};
 use crate::whole_number::WholeNumber;
-use op_list::{Op, PixelPosition, Stage, shifted};
+use kernel_lane::{Change, change_front};
+use op_list::{Op, PixelPosition, Stage};
 
-// A number times 2^n, modulo 2^bits.
+// A number times 2^n, modulo 2^bits: what is above those bits is shifted out, and the rest back.
 #[derive(Clone, Copy)]
 struct ShiftedLeft {
     n: u8,
     bits: u32,
 }
 
-impl NumberRule for ShiftedLeft {
-    ghost stands = { λ r. (r.n < r.bits) × (r.bits ≤ 32) };
+impl<W: WholeNumber> Change<W> for ShiftedLeft {
+    ghost takes = { λ r _. (r.n < r.bits) × (r.bits ≤ W.bits) };
 
-    ghost makes = { λ r n. n * 2 ^ r.n % 2 ^ r.bits };
+    ghost makes = { λ r x y. W.number y ≡ W.number x * 2 ^ r.n % 2 ^ r.bits };
 
-    fn made(self, n: u32) -> u32 {
-        shifted(n, self.n, self.bits)
+    fn changed(self, x: W) -> W {
+        let above = W::size() - self.bits;
+        x.shifted_left(u32::from(self.n) + above)
+            .shifted_right(above)
     }
 }
 
@@ -50,12 +52,9 @@ pub fn left_shift_step<W: WholeNumber, N: Numerator>(
     ensures holds { Performs W.number N.value stage before.now
         (Op.LeftShift n) after.now _position.now values.old _numbers.now values.new _numbers.now }
 {
-    map_values(
-        values,
-        64 * after.count,
-        ShiftedLeft {
-            n,
-            bits: stage.bits(),
-        },
-    );
+    let rule = ShiftedLeft {
+        n,
+        bits: stage.bits(),
+    };
+    change_front::<W, ShiftedLeft>(rule, values, 64 * after.count);
 }

@@ -3,40 +3,63 @@ ghost use Rattle.std.specs.Prelude.{◌≡◌, ℕ, ◌+◌, ◌*◌, ◌^◌, �
 ghost use Rattle.std.specs.Prelude.{slice_index, slice_index_or, IfSome};
 ghost use Rattle.op_list.specs.Types.{bits_at};
 ghost use Rattle.op_list.specs.Typing.{may_follow, are_good, stage_after};
-ghost use Rattle.op_list.specs.Whole.{placed};
+ghost use Rattle.op_list.specs.Whole.{bits_below, placed};
 ghost use Rattle.kernel_int.specs.Forms.{IsBounded, IsStep, Performs};
 
+use crate::fields::{FieldPlace, bits_below};
 use crate::form::{Form, whole_form};
 use crate::numerator::Numerator;
 use crate::value::fill;
 use crate::whole_number::WholeNumber;
-use op_list::{Op, PixelPosition, Stage, packed};
+use kernel_lane::{change_part, merge_within};
+use op_list::{Op, PixelPosition, Stage};
 
-// The values of pixel i as the fields of one number.
-fn packed_pixel<W: WholeNumber>(widths: &[u8; 4], values: &[W], i: usize) -> W
-    requires inside { (i < 64) × (length values.now ≡ 256) }
-    requires widths { sum widths.now ≤ 32 }
-    requires fits { 2 ^ sum widths.now ≤ 2 ^ W.bits }
-    ensures { (d : W) → W.number result
-        ≡ placed widths.now (W.number (slice_index_or values.now i d)) 0
-        + placed widths.now (W.number (slice_index_or values.now (64 + i) d)) 1
-        + placed widths.now (W.number (slice_index_or values.now (128 + i) d)) 2
-        + placed widths.now (W.number (slice_index_or values.now (192 + i) d)) 3 }
+// Value 0 of each pixel becomes its own field of the number.
+fn place_first<W: WholeNumber>(widths: &[u8; 4], values: &mut [W])
+    requires block { length values.old ≡ 256 }
+    requires room { bits_below widths.now 0 + slice_index widths.now 0 ≤ W.bits }
+    ensures set { (i : ℕ) (d : W) → i < 64 → W.number (slice_index_or values.new i d)
+        ≡ placed widths.now (W.number (slice_index_or values.old i d)) 0 }
+    ensures kept { (j : ℕ) (d : W) → 64 ≤ j
+        → slice_index_or values.new j d ≡ slice_index_or values.old j d }
 {
-    let fields = [
-        values[i].wide(),
-        values[64 + i].wide(),
-        values[128 + i].wide(),
-        values[192 + i].wide(),
-    ];
-    W::narrow(packed(widths, &fields))
+    if widths[0] == 0 {
+        fill(values, 0, W::narrow(0));
+        return;
+    }
+    let place = FieldPlace {
+        below: bits_below(widths, 0),
+        width: widths[0],
+    };
+    change_part::<W, FieldPlace, 64>(place, values, 0);
+}
+
+// The field of value v of each pixel, added to value 0.
+#[inline(never)]
+fn add_field<W: WholeNumber>(widths: &[u8; 4], v: usize, values: &mut [W])
+    requires block { (0 < v) × (v < 4) × (length values.old ≡ 256) }
+    requires room { bits_below widths.now v + slice_index widths.now v ≤ W.bits }
+    requires fits { (i : ℕ) (d : W) → i < 64 → W.number (slice_index_or values.old i d)
+        + placed widths.now (W.number (slice_index_or values.old (64 * v + i) d)) v < 2 ^ W.bits }
+    ensures set { (i : ℕ) (d : W) → i < 64 → W.number (slice_index_or values.new i d)
+        ≡ W.number (slice_index_or values.old i d)
+        + placed widths.now (W.number (slice_index_or values.old (64 * v + i) d)) v }
+    ensures kept { (j : ℕ) (d : W) → 64 ≤ j
+        → slice_index_or values.new j d ≡ slice_index_or values.old j d }
+{
+    if widths[v] == 0 {
+        return;
+    }
+    let place = FieldPlace {
+        below: bits_below(widths, v),
+        width: widths[v],
+    };
+    merge_within::<W, FieldPlace, 64>(place, values, 0, 64 * v);
 }
 
 // The values of each pixel as the fields of its value 0.
-#[inline(never)]
 fn pack_fields<W: WholeNumber>(widths: &[u8; 4], values: &mut [W])
     requires block { length values.old ≡ 256 }
-    requires widths { sum widths.now ≤ 32 }
     requires fits { 2 ^ sum widths.now ≤ 2 ^ W.bits }
     ensures set { (i : ℕ) (d : W) → i < 64 → W.number (slice_index_or values.new i d)
         ≡ placed widths.now (W.number (slice_index_or values.old i d)) 0
@@ -46,11 +69,10 @@ fn pack_fields<W: WholeNumber>(widths: &[u8; 4], values: &mut [W])
     ensures kept { (j : ℕ) (d : W) → 64 ≤ j
         → slice_index_or values.new j d ≡ slice_index_or values.old j d }
 {
-    // A copy, which no store to the values can change.
-    let own = *widths;
-    for i in 0..64 {
-        values[i] = packed_pixel(&own, values, i);
-    }
+    place_first(widths, values);
+    add_field(widths, 1, values);
+    add_field(widths, 2, values);
+    add_field(widths, 3, values);
 }
 
 /// A Pack of the values of a block.

@@ -7,8 +7,8 @@ ghost use Rattle.kernel_int.specs.Forms.{IsBounded, IsStep, Performs};
 
 use crate::form::Form;
 use crate::numerator::Numerator;
-use crate::rule::{NumberRule, map_values};
 use crate::whole_number::WholeNumber;
+use kernel_lane::{Change, change_front};
 use op_list::{Op, PixelPosition, Stage};
 
 // A number divided by 2^n, floored.
@@ -17,13 +17,13 @@ struct ShiftedRight {
     n: u8,
 }
 
-impl NumberRule for ShiftedRight {
-    ghost stands = { λ r. r.n < 32 };
+impl<W: WholeNumber> Change<W> for ShiftedRight {
+    ghost takes = { λ r _. r.n < W.bits };
 
-    ghost makes = { λ r n. n / 2 ^ r.n };
+    ghost makes = { λ r x y. W.number y ≡ W.number x / 2 ^ r.n };
 
-    fn made(self, n: u32) -> u32 {
-        n >> self.n
+    fn changed(self, x: W) -> W {
+        x.shifted_right(u32::from(self.n))
     }
 }
 
@@ -49,5 +49,5 @@ pub fn right_shift_step<W: WholeNumber, N: Numerator>(
     ensures holds { Performs W.number N.value stage before.now
         (Op.RightShift n) after.now _position.now values.old _numbers.now values.new _numbers.now }
 {
-    map_values(values, 64 * after.count, ShiftedRight { n });
+    change_front::<W, ShiftedRight>(ShiftedRight { n }, values, 64 * after.count);
 }

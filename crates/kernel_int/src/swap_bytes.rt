@@ -7,8 +7,8 @@ ghost use Rattle.kernel_int.specs.Forms.{IsBounded, IsStep, Performs};
 
 use crate::form::Form;
 use crate::numerator::Numerator;
-use crate::rule::{NumberRule, map_values};
 use crate::whole_number::WholeNumber;
+use kernel_lane::{Change, change_front};
 use op_list::{Op, PixelPosition, Stage, reversed_bytes};
 
 // A number with the bytes of so many bits in the other order.
@@ -17,13 +17,14 @@ struct ReversedBytes {
     bits: u32,
 }
 
-impl NumberRule for ReversedBytes {
-    ghost stands = { λ r. (r.bits ≡ 16) ⊎ (r.bits ≡ 32) };
+impl<W: WholeNumber> Change<W> for ReversedBytes {
+    ghost takes = { λ r x. ((r.bits ≡ 16) ⊎ (r.bits ≡ 32))
+        × (reversed_bytes (r.bits / 8) (W.number x) < 2 ^ W.bits) };
 
-    ghost makes = { λ r n. reversed_bytes (r.bits / 8) n };
+    ghost makes = { λ r x y. W.number y ≡ reversed_bytes (r.bits / 8) (W.number x) };
 
-    fn made(self, n: u32) -> u32 {
-        reversed_bytes(n, self.bits)
+    fn changed(self, x: W) -> W {
+        W::narrow(reversed_bytes(x.wide(), self.bits))
     }
 }
 
@@ -48,9 +49,6 @@ pub fn swap_bytes_step<W: WholeNumber, N: Numerator>(
     ensures holds { Performs W.number N.value stage before.now Op.SwapBytes after.now _position.now
         values.old _numbers.now values.new _numbers.now }
 {
-    map_values(
-        values,
-        64 * after.count,
-        ReversedBytes { bits: stage.bits() },
-    );
+    let rule = ReversedBytes { bits: stage.bits() };
+    change_front::<W, ReversedBytes>(rule, values, 64 * after.count);
 }

@@ -11,7 +11,22 @@ use crate::form::{Extent, Form, NO_DIVISOR, NumberWidth};
 use crate::interval::fits;
 use crate::numerator::Numerator;
 use crate::whole_number::WholeNumber;
+use kernel_lane::{Merge, merge_front};
 use op_list::{Op, PixelPosition, Stage};
+
+// A whole number as a numerator.
+#[derive(Clone, Copy)]
+struct AsNumerator;
+
+impl<W: WholeNumber, N: Numerator> Merge<W, N> for AsNumerator {
+    ghost takes = { λ _ _ x. FitsSigned N.width (pos (W.number x)) };
+
+    ghost makes = { λ _ _ x y. N.value y ≡ pos (W.number x) };
+
+    fn merged(self, _old: N, from: W) -> N {
+        N::of(i128::from(from.wide()))
+    }
+}
 
 // The first n whole numbers as numerators.
 #[inline(never)]
@@ -23,9 +38,7 @@ fn widen<W: WholeNumber, N: Numerator>(values: &[W], n: usize, numbers: &mut [N]
         → N.value (slice_index_or numbers.new j e)
         ≡ pos (W.number (slice_index_or values.now j d)) }
 {
-    for j in 0..n {
-        numbers[j] = N::of(i128::from(values[j].wide()));
-    }
+    merge_front::<W, N, AsNumerator>(AsNumerator, numbers, values, n);
 }
 
 /// A Convert of whole numbers to fractions.

@@ -3,44 +3,32 @@ ghost use Rattle.std.specs.Prelude.{◌≡◌, ℕ, ◌+◌, ◌*◌, ◌/◌, �
 ghost use Rattle.std.specs.Prelude.{slice_index, slice_index_or, IfSome};
 ghost use Rattle.op_list.specs.Types.{bits_at};
 ghost use Rattle.op_list.specs.Typing.{may_follow, are_good, stage_after};
-ghost use Rattle.op_list.specs.Whole.{bits_below};
 ghost use Rattle.kernel_int.specs.Forms.{IsBounded, IsStep, Performs};
 
+use crate::fields::{Field, bits_below};
 use crate::form::{Form, whole_form};
 use crate::numerator::Numerator;
-use crate::value::copy_value;
+use crate::value::{copy_value, fill};
 use crate::whole_number::WholeNumber;
-use op_list::{Op, PixelPosition, Stage, field};
+use kernel_lane::merge_part;
+use op_list::{Op, PixelPosition, Stage};
 
 // A field of value 0 of each pixel, as its value v.
 #[inline(never)]
 fn unpack_field<W: WholeNumber>(from: &[W], below: u32, width: u8, to: &mut [W], v: usize)
     requires block { (v < 4) × (length from.now ≡ 256) × (length to.old ≡ 256) }
-    requires field { (below ≤ 32) × (width ≤ 32) }
-    requires fits { (i : ℕ) (d : W) → i < 64
-        → W.number (slice_index_or from.now i d) / 2 ^ below % 2 ^ width < 2 ^ W.bits }
+    requires room { below + width ≤ W.bits }
     ensures set { (i : ℕ) (d : W) → i < 64
         → W.number (slice_index_or to.new (64 * v + i) d) ≡ W.number (slice_index_or from.now i d)
         / 2 ^ below % 2 ^ width }
     ensures kept { (j : ℕ) (d : W) → (j < 64 * v) ⊎ (64 * v + 64 ≤ j)
         → slice_index_or to.new j d ≡ slice_index_or to.old j d }
 {
-    for i in 0..64 {
-        to[64 * v + i] = W::narrow(field(from[i].wide(), below, width));
+    if width == 0 {
+        fill(to, v, W::narrow(0));
+        return;
     }
-}
-
-// The bits below field v.
-fn bits_below(widths: &[u8; 4], v: usize) -> u32
-    requires { v < 4 }
-    ensures { result ≡ bits_below widths.now v }
-{
-    match v {
-        0 => u32::from(widths[1]) + u32::from(widths[2]) + u32::from(widths[3]),
-        1 => u32::from(widths[2]) + u32::from(widths[3]),
-        2 => u32::from(widths[3]),
-        _ => 0,
-    }
+    merge_part::<W, W, Field, 64>(Field { below, width }, to, 64 * v, from, 0);
 }
 
 /// An Unpack of the values of a block.

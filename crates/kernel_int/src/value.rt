@@ -1,6 +1,8 @@
 // One value of the pixels of a block, whatever it is made of.
 ghost use Rattle.std.specs.Prelude.{◌≡◌, ℕ, ◌+◌, ◌*◌, ◌<◌, ◌≤◌, ◌⊎◌, length, slice_index_or};
 
+use kernel_lane::fill_part;
+
 // Value v of a block is value u of another.
 pub fn copy_value<T: Copy>(from: &[T], u: usize, to: &mut [T], v: usize)
     requires block { (u < 4) × (v < 4) × (length from.now ≡ 256) × (length to.old ≡ 256) }
@@ -19,7 +21,5 @@ pub fn fill<T: Copy>(to: &mut [T], v: usize, x: T)
     ensures kept { (j : ℕ) (d : T) → (j < 64 * v) ⊎ (64 * v + 64 ≤ j)
         → slice_index_or to.new j d ≡ slice_index_or to.old j d }
 {
-    for i in 0..64 {
-        to[64 * v + i] = x;
-    }
+    fill_part::<T, 64>(to, 64 * v, x);
 }

@@ -1,4 +1,4 @@
-ghost use Rattle.std.specs.Prelude.{◌≡◌, ℕ, ◌+◌, ◌*◌, ◌^◌, ◌<◌, ◌≤◌, ◌⊎◌, true, false, length};
+ghost use Rattle.std.specs.Prelude.{◌≡◌, ℕ, ◌+◌, ◌*◌, ◌/◌, ◌%◌, ◌^◌, ◌<◌, ◌≤◌, ◌⊎◌, true, false, length};
 ghost use Rattle.std.specs.Prelude.{slice_index, slice_index_or};
 
 use crate::lanes::{join_block, split_block};
@@ -18,6 +18,26 @@ pub trait WholeNumber: Copy {
     fn narrow(n: u32) -> Self
         requires { n < 2 ^ bits }
         ensures { number result ≡ n };
+
+    /// How many bits it has.
+    fn size() -> u32
+        ensures value { result ≡ bits }
+        ensures small { result ≤ 32 };
+
+    /// The number times 2^n, modulo 2^bits.
+    fn shifted_left(self, n: u32) -> Self
+        requires { n < bits }
+        ensures { number result ≡ number self * 2 ^ n % 2 ^ bits };
+
+    /// The number divided by 2^n, floored.
+    fn shifted_right(self, n: u32) -> Self
+        requires { n < bits }
+        ensures { number result ≡ number self / 2 ^ n };
+
+    /// The sum of the number and another one.
+    fn plus(self, addend: Self) -> Self
+        requires { number self + number addend < 2 ^ bits }
+        ensures { number result ≡ number self + number addend };
 
     /// Splits the three bytes of each of the 64 pixels of a block, which begin at `start`, where
     /// there is a fast way for these numbers.
@@ -57,6 +77,22 @@ impl WholeNumber for u8 {
         n as u8
     }
 
+    fn size() -> u32 {
+        8
+    }
+
+    fn shifted_left(self, n: u32) -> u8 {
+        self << n
+    }
+
+    fn shifted_right(self, n: u32) -> u8 {
+        self >> n
+    }
+
+    fn plus(self, addend: u8) -> u8 {
+        self + addend
+    }
+
     fn split_three(from: &[u8], start: usize, values: &mut [u8]) -> bool {
         split_block(from, start, values);
         true
@@ -81,6 +117,22 @@ impl WholeNumber for u16 {
         n as u16
     }
 
+    fn size() -> u32 {
+        16
+    }
+
+    fn shifted_left(self, n: u32) -> u16 {
+        self << n
+    }
+
+    fn shifted_right(self, n: u32) -> u16 {
+        self >> n
+    }
+
+    fn plus(self, addend: u16) -> u16 {
+        self + addend
+    }
+
     fn split_three(_from: &[u8], _start: usize, _values: &mut [u16]) -> bool {
         false
     }
@@ -101,6 +153,22 @@ impl WholeNumber for u32 {
 
     fn narrow(n: u32) -> u32 {
         n
+    }
+
+    fn size() -> u32 {
+        32
+    }
+
+    fn shifted_left(self, n: u32) -> u32 {
+        self << n
+    }
+
+    fn shifted_right(self, n: u32) -> u32 {
+        self >> n
+    }
+
+    fn plus(self, addend: u32) -> u32 {
+        self + addend
     }
 
     fn split_three(_from: &[u8], _start: usize, _values: &mut [u32]) -> bool {

@@ -8,8 +8,8 @@ ghost use Rattle.kernel_int.specs.Forms.{IsBounded, Performs};
 
 use crate::form::Form;
 use crate::numerator::Numerator;
-use crate::rule::{NumberRule, map_values};
 use crate::whole_number::WholeNumber;
+use kernel_lane::{Change, change_front};
 use op_list::{Op, PixType, PixelPosition, Stage, product_modulo};
 
 // A number times a factor, modulo 2^bits.
@@ -19,13 +19,13 @@ struct Multiplied {
     bits: u32,
 }
 
-impl NumberRule for Multiplied {
-    ghost stands = { λ r. r.bits ≤ 32 };
+impl<W: WholeNumber> Change<W> for Multiplied {
+    ghost takes = { λ r x. (r.bits ≤ 32) × (W.number x * r.factor % 2 ^ r.bits < 2 ^ W.bits) };
 
-    ghost makes = { λ r n. n * r.factor % 2 ^ r.bits };
+    ghost makes = { λ r x y. W.number y ≡ W.number x * r.factor % 2 ^ r.bits };
 
-    fn made(self, n: u32) -> u32 {
-        product_modulo(n, self.factor, self.bits)
+    fn changed(self, x: W) -> W {
+        W::narrow(product_modulo(x.wide(), self.factor, self.bits))
     }
 }
 
@@ -60,12 +60,9 @@ pub fn retype_step<W: WholeNumber, N: Numerator>(
         (Op.Convert to expand) after.now _position.now values.old _numbers.now values.new
         _numbers.now }
 {
-    map_values(
-        values,
-        64 * after.count,
-        Multiplied {
-            factor: factor_of(expand),
-            bits: to.bits(),
-        },
-    );
+    let rule = Multiplied {
+        factor: factor_of(expand),
+        bits: to.bits(),
+    };
+    change_front::<W, Multiplied>(rule, values, 64 * after.count);
 }

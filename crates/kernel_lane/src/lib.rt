@@ -5,6 +5,7 @@
 mod bytes;
 mod lanes;
 mod numerators;
+mod parts;
 mod picks;
 mod px;
 mod rule;
@@ -16,6 +17,7 @@ mod widths;
 pub use bytes::{swap_u16, swap_u32};
 pub use lanes::{change_part, merge_few, merge_part};
 pub use numerators::{clamp, floor_div, mul_add};
+pub use parts::{change_front, fill_part, merge_front, merge_within};
 pub use picks::pick;
 pub use px::Px;
 pub use rule::{Change, Merge};

@@ -4,8 +4,9 @@ ghost use Rattle.kernel_lane.specs.Rows.{ForEach};
 ghost use Rattle.kernel_lane.specs.Rules.{IsLaneCount};
 
 use crate::{
-    Change, Merge, change_part, clamp, expand, floor_div, merge_few, merge_part, mul_add, narrow,
-    pick, shift_left, shift_right, swap_u16, swap_u32, widen,
+    Change, Merge, change_front, change_part, clamp, expand, fill_part, floor_div, merge_few,
+    merge_front, merge_part, merge_within, mul_add, narrow, pick, shift_left, shift_right,
+    swap_u16, swap_u32, widen,
 };
 use std::process::Abort;
 
@@ -213,6 +214,20 @@ impl Merge<u16, u32> for Remainder {
     }
 }
 
+// Half of a number, and half of another.
+#[derive(Clone, Copy)]
+struct Mean;
+
+impl Merge<u32, u32> for Mean {
+    ghost takes = { λ _ _ _. ⊤ };
+
+    ghost makes = { λ _ s x y. y ≡ s / 2 + x / 2 };
+
+    fn merged(self, old: u32, from: u32) -> u32 {
+        old / 2 + from / 2
+    }
+}
+
 const PLACE: usize = 33;
 
 const START: usize = 7;
@@ -242,6 +257,74 @@ fn check_parts<const N: usize>(rt: &impl Abort)
         };
         assert_eq!(rt; (changed[i], merged[i], few[i]), (half, rest, rest));
     }
+}
+
+// N elements that become the same, and N that take those of the same row behind them.
+fn check_own_parts<const N: usize>(rt: &impl Abort)
+    requires short { N ≤ 70 }
+{
+    let mut filled = [0u32; 2 * MOST];
+    for i in 0..2 * MOST {
+        filled[i] = u32::from(sample(i)) * 65536;
+    }
+    let mut within = filled;
+    fill_part::<u32, N>(&mut filled, PLACE, 5);
+    merge_within::<u32, Mean, N>(Mean, &mut within, 0, MOST);
+    for i in 0..2 * MOST {
+        let x = u32::from(sample(i)) * 65536;
+        let same = if PLACE <= i && i < PLACE + N { 5 } else { x };
+        let mean = if i < N {
+            x / 2 + u32::from(sample(i + MOST)) * 32768
+        } else {
+            x
+        };
+        assert_eq!(rt; (filled[i], within[i]), (same, mean));
+    }
+}
+
+// The first elements, so many of them: those behind them stay.
+fn check_fronts(rt: &impl Abort, len: usize)
+    requires short { len ≤ 70 }
+{
+    let mut from = [0u16; MOST];
+    let mut changed = [0u32; MOST];
+    for i in 0..MOST {
+        from[i] = sample(i + 200);
+        changed[i] = u32::from(sample(i)) * 65536;
+    }
+    let mut merged = changed;
+    change_front::<u32, Half>(Half, &mut changed, len);
+    merge_front::<u16, u32, Remainder>(Remainder, &mut merged, &from, len);
+    for i in 0..MOST {
+        let x = u32::from(sample(i)) * 65536;
+        let (half, rest) = if i < len {
+            (x / 2, x % (u32::from(sample(i + 200)) + 1))
+        } else {
+            (x, x)
+        };
+        assert_eq!(rt; (changed[i], merged[i]), (half, rest));
+    }
+}
+
+#[test]
+fn fronts_equal_their_plain_rules(rt: HostRuntime) {
+    for len in [0, 1, 7, 8, 9, 31, 32, 33, 70usize] {
+        assert!(rt; len <= MOST);
+        check_fronts(&rt, len);
+    }
+}
+
+#[test]
+fn own_parts_equal_their_plain_rules(rt: HostRuntime) {
+    check_own_parts::<0>(&rt);
+    check_own_parts::<1>(&rt);
+    check_own_parts::<7>(&rt);
+    check_own_parts::<8>(&rt);
+    check_own_parts::<9>(&rt);
+    check_own_parts::<31>(&rt);
+    check_own_parts::<32>(&rt);
+    check_own_parts::<33>(&rt);
+    check_own_parts::<70>(&rt);
 }
 
 #[test]

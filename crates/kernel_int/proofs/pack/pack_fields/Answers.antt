@@ -1,29 +1,96 @@
-use Rattle.std.proofs.Common.{◌≡◌, ◌≢◌, ◌+◌, ◌<◌, ap, ◌∙◌, arith, length, slice_index_or, slice_set, get_or-set_other, get_or-set_same}
-use Rattle.std.proofs.Common.{below_more}
-use Rattle.op_list.specs.Whole.{placed}
-use Rattle.kernel_int.proofs.FieldSteps.{same_fields}
+use Rattle.std.proofs.Common.{ℕ, ◌+◌, arith, refl, slice_index_or, sum}
+use Rattle.kernel_int.proofs.FieldSteps.{field_room, packed_small}
+use Rattle.kernel_int.proofs.Shifts.{power_order}
 use Rattle.kernel_int.proofs.pack.pack_fields.Goals as goal
 
-pub loop-i-preserved : goal.loop-i-preserved
-loop-i-preserved g c =
-    let i = c.loop-i.i in
-    let values = c.loop-i.values in
-    let old = c.args.values.now in
-    let is = c.loop-i.invariant.rest in
-    let in_block : i < length values = omega arith in
-    record {
-      set = λ u d below.
-          below_more
-          (λ t. g.W.WholeNumber.number (slice_index_or (slice_set values i c.packed_pixel.result) t d)
-          ≡ placed c.args.widths.now (g.W.WholeNumber.number (slice_index_or old t d)) 0
-          + placed c.args.widths.now (g.W.WholeNumber.number (slice_index_or old (64 + t) d)) 1
-          + placed c.args.widths.now (g.W.WholeNumber.number (slice_index_or old (128 + t) d)) 2
-          + placed c.args.widths.now (g.W.WholeNumber.number (slice_index_or old (192 + t) d)) 3) i
-          (λ t lt. let ne : t ≢ i = omega arith in rw get_or-set_other (c.loop-i.invariant.set t d lt))
-          (rw get_or-set_same
-          (c.packed_pixel.ensures d
-          ∙ same_fields c.args.widths.now (ap g.W.WholeNumber.number (is i d (omega arith)))
-          (ap g.W.WholeNumber.number (is (64 + i) d (omega arith)))
-          (ap g.W.WholeNumber.number (is (128 + i) d (omega arith))) (ap g.W.WholeNumber.number (is (192 + i) d (omega arith))))) u below;
-      rest = λ j d past. let ne : j ≢ i = omega arith in rw get_or-set_other (is j d (omega arith));
-    }
+pub place_first-requires-clause-room : goal.place_first-requires-clause-room
+place_first-requires-clause-room g c =
+    omega (
+      arith,
+      field_room c.args.widths.now 0 (omega arith) (omega arith),
+      power_order (sum c.args.widths.now) g.W.WholeNumber.bits
+          c.requires.fits,
+    )
+
+pub add_field-requires-clause-room : goal.add_field-requires-clause-room
+add_field-requires-clause-room g c =
+    omega (
+      arith,
+      field_room c.args.widths.now 1 (omega arith) (omega arith),
+      power_order (sum c.args.widths.now) g.W.WholeNumber.bits
+          c.requires.fits,
+    )
+
+pub add_field-requires-2-clause-room : goal.add_field-requires-2-clause-room
+add_field-requires-2-clause-room g c =
+    omega (
+      arith,
+      field_room c.args.widths.now 2 (omega arith) (omega arith),
+      power_order (sum c.args.widths.now) g.W.WholeNumber.bits
+          c.requires.fits,
+    )
+
+pub add_field-requires-3-clause-room : goal.add_field-requires-3-clause-room
+add_field-requires-3-clause-room g c =
+    omega (
+      arith,
+      field_room c.args.widths.now 3 (omega arith) (omega arith),
+      power_order (sum c.args.widths.now) g.W.WholeNumber.bits
+          c.requires.fits,
+    )
+
+pub add_field-requires-clause-fits : goal.add_field-requires-clause-fits
+add_field-requires-clause-fits g c =
+    λ i d below.
+    let x = λ (at : ℕ). g.W.WholeNumber.number (slice_index_or c.args.values.now at d) in
+    let all = packed_small c.args.widths.now (x i) (x (64 + i)) (x (128 + i)) (x (192 + i)) (omega arith) in
+    rw (c.place_first.ensures.set i d below, c.place_first.ensures.kept (64 + i) d (omega arith)) (omega (arith, all, c.requires.fits))
+
+pub add_field-requires-2-clause-fits : goal.add_field-requires-2-clause-fits
+add_field-requires-2-clause-fits g c =
+    λ i d below.
+    let x = λ (at : ℕ). g.W.WholeNumber.number (slice_index_or c.args.values.now at d) in
+    let all = packed_small c.args.widths.now (x i) (x (64 + i)) (x (128 + i)) (x (192 + i)) (omega arith) in
+    rw (
+      c.add_field.ensures.set i d below,
+      c.add_field.ensures.kept (128 + i) d (omega arith),
+      c.place_first.ensures.set i d below,
+      c.place_first.ensures.kept (64 + i) d (omega arith),
+      c.place_first.ensures.kept (128 + i) d (omega arith),
+    )
+    (omega (arith, all, c.requires.fits))
+
+pub add_field-requires-3-clause-fits : goal.add_field-requires-3-clause-fits
+add_field-requires-3-clause-fits g c =
+    λ i d below.
+    let x = λ (at : ℕ). g.W.WholeNumber.number (slice_index_or c.args.values.now at d) in
+    let all = packed_small c.args.widths.now (x i) (x (64 + i)) (x (128 + i)) (x (192 + i)) (omega arith) in
+    rw (
+      c.add_field-2.ensures.set i d below,
+      c.add_field-2.ensures.kept (192 + i) d (omega arith),
+      c.add_field.ensures.set i d below,
+      c.add_field.ensures.kept (128 + i) d (omega arith),
+      c.add_field.ensures.kept (192 + i) d (omega arith),
+      c.place_first.ensures.set i d below,
+      c.place_first.ensures.kept (64 + i) d (omega arith),
+      c.place_first.ensures.kept (128 + i) d (omega arith),
+      c.place_first.ensures.kept (192 + i) d (omega arith),
+    )
+    (omega (arith, all, c.requires.fits))
+
+pub returns-clause-set : goal.returns-clause-set
+returns-clause-set g c =
+    λ i d below.
+    rw (
+      c.add_field-3.ensures.set i d below,
+      c.add_field-2.ensures.set i d below,
+      c.add_field-2.ensures.kept (192 + i) d (omega arith),
+      c.add_field.ensures.set i d below,
+      c.add_field.ensures.kept (128 + i) d (omega arith),
+      c.add_field.ensures.kept (192 + i) d (omega arith),
+      c.place_first.ensures.set i d below,
+      c.place_first.ensures.kept (64 + i) d (omega arith),
+      c.place_first.ensures.kept (128 + i) d (omega arith),
+      c.place_first.ensures.kept (192 + i) d (omega arith),
+    )
+    refl

@@ -1,10 +1,6 @@
 use Rattle.std.proofs.Common.{◌≡◌, ◌+◌, ◌*◌, ◌<◌, ap, ◌∙◌, arith, inl, slice_index_or, below_more}
-use Rattle.op_list.proofs.Applied.{pack_widths}
 use Rattle.kernel_int.proofs.FieldSteps.{Packs, pack_fits, pack_bounded, pack_performs}
 use Rattle.kernel_int.proofs.pack.pack_step.Goals as goal
-
-pub pack_fields-requires-clause-widths : goal.pack_fields-requires-clause-widths
-pack_fields-requires-clause-widths g c = pack_widths c.args.stage c.args.widths.now c.requires.good
 
 pub pack_fields-requires-clause-fits : goal.pack_fields-requires-clause-fits
 pack_fields-requires-clause-fits g c = pack_fits c.args.stage c.args.widths.now g.W.WholeNumber.bits c.requires.good c.requires.stored

@@ -1,27 +1,12 @@
-use Rattle.std.proofs.Common.{◌<◌, ◌/◌, ◌%◌, ◌^◌, ap, ◌∙◌, arith, slice_index, slice_index_or}
+use Rattle.std.proofs.Common.{◌/◌, ◌%◌, ◌^◌, ap, ◌∙◌, arith, slice_index, slice_index_or}
 use Rattle.op_list.specs.Whole.{bits_below}
-use Rattle.op_list.proofs.Applied.{unpack_widths}
-use Rattle.kernel_int.proofs.FieldSteps.{Unpacks, width_most, below_most, copied_first, unpack_fits, unpack_bounded, unpack_performs}
+use Rattle.kernel_int.proofs.FieldSteps.{Unpacks, copied_first, unpack_bounded, unpack_performs, unpack_room}
 use Rattle.kernel_int.proofs.unpack.unpack_step.Goals as goal
 
-pub unpack_field-requires-clause-field : goal.unpack_field-requires-clause-field
-unpack_field-requires-clause-field g c =
-    let widths = c.args.widths.now in
-    let v = c.loop-v.v in
-    let small : v < 4 = omega arith in
-    let most = unpack_widths c.args.stage widths c.requires.good in (
-      omega (arith, below_most widths v (omega arith) small, most, c.bits_below.ensures),
-      omega (arith, width_most widths v (omega arith) small, most),
-    )
-
-pub unpack_field-requires-clause-fits : goal.unpack_field-requires-clause-fits
-unpack_field-requires-clause-fits g c =
-    λ i d within.
-    let widths = c.args.widths.now in
-    let v = c.loop-v.v in
+pub unpack_field-requires-clause-room : goal.unpack_field-requires-clause-room
+unpack_field-requires-clause-room g c =
     rw c.bits_below.ensures
-    (unpack_fits c.args.stage widths (g.W.WholeNumber.number (slice_index_or c.copy_value.new.to i d)) v g.W.WholeNumber.bits (omega arith)
-    (omega arith) c.requires.good c.requires.stored)
+    (unpack_room c.args.stage c.args.widths.now c.loop-v.v g.W.WholeNumber.bits (omega arith) (omega arith) c.requires.good c.requires.stored)
 
 pub returns-clause-bounded : goal.returns-clause-bounded
 returns-clause-bounded g c =
