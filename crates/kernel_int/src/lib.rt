@@ -23,7 +23,6 @@ mod joint_step;
 mod joint_value;
 mod joint_width;
 mod kernel;
-mod lanes;
 mod left_shift;
 mod limit;
 mod linear;
