@@ -24,6 +24,7 @@ pub mod MadeValues
 pub mod MappedSteps
 pub mod NarrowSteps
 pub mod Palettes
+pub mod Parts
 pub mod PlaneRows
 pub mod Positions
 pub mod RationalSteps
@@ -36,7 +37,6 @@ pub mod RunLimits
 pub mod RunRows
 pub mod ScaleSteps
 pub mod ShortFactors
-pub mod Sixteens
 pub mod Swizzles
 pub mod ValueBlocks
 pub mod ValueFractions

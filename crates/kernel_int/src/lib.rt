@@ -24,7 +24,6 @@ mod joint_step;
 mod joint_value;
 mod joint_width;
 mod kernel;
-mod lanes;
 mod left_shift;
 mod limit;
 mod limits;

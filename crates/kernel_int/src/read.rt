@@ -1,5 +1,6 @@
 // The elements of the pixels of a block, read from the rows of planes.
-ghost use Rattle.std.specs.Prelude.{◌≡◌, ℕ, ◌+◌, ◌*◌, ◌^◌, ◌<◌, ◌≤◌, ◌⊎◌, true, length, sum};
+ghost use Rattle.std.specs.Prelude.{◌≡◌, ℕ, ◌+◌, ◌*◌, ◌^◌, ◌<◌, ◌≤◌, ◌⊎◌, true, false, length};
+ghost use Rattle.std.specs.Prelude.{sum};
 ghost use Rattle.std.specs.Prelude.{slice_index, slice_index_or};
 ghost use Rattle.op_list.specs.Types.{bits, bytes, is_whole_type};
 ghost use Rattle.op_list.specs.Pixel.{element};
@@ -108,9 +109,9 @@ fn read_double_words<W: WholeNumber>(
     }
 }
 
-// Fills the three values of a whole block of bytes, where they are all of a plane, the first, and
-// there is a fast way. It answers how many values it filled.
-fn read_three<W: WholeNumber>(
+// Fills the values of a plane for a whole block of bytes, where there is a fast way. It answers how
+// many it filled: all of them or none.
+fn read_whole<W: WholeNumber>(
     elem: PixType,
     count: usize,
     before: usize,
@@ -119,14 +120,14 @@ fn read_three<W: WholeNumber>(
     n: usize,
     values: &mut [W],
 ) -> usize
+    requires few { before + count ≤ 4 }
     requires room { (x + n) * count * bytes elem ≤ length from.now }
     requires block { length values.old ≡ 256 }
     ensures few { result ≤ count }
-    ensures first { (before ≡ 0) ⊎ (result ≡ 0) }
     ensures set { (e i : ℕ) (d : W) → e < result → i < n
-        → W.number (slice_index_or values.new (64 * e + i) d)
+        → W.number (slice_index_or values.new (64 * (before + e) + i) d)
         ≡ element elem from.now ((x + i) * count + e) }
-    ensures kept { (j : ℕ) (d : W) → 64 * result ≤ j → j < 256
+    ensures kept { (j : ℕ) (d : W) → (j < 64 * before) ⊎ (64 * (before + result) ≤ j)
         → slice_index_or values.new j d ≡ slice_index_or values.old j d }
     ensures small { AreBelow W.number values.old 4 (2 ^ bits elem)
         → AreBelow W.number values.new 4 (2 ^ bits elem) }
@@ -134,20 +135,41 @@ fn read_three<W: WholeNumber>(
     let PixType::U8 = elem else {
         return 0;
     };
-    if before != 0 {
-        return 0;
-    }
-    if count != 3 {
-        return 0;
-    }
     if n != 64 {
         return 0;
     }
-    if W::split_three(from, x * 3, values) {
-        3
+    if split_part(count, before, from, x * count, values) {
+        count
     } else {
         0
     }
+}
+
+// Splits the bytes of 64 pixels, which begin at `start`, into the values from `before` on.
+fn split_part<W: WholeNumber>(
+    count: usize,
+    before: usize,
+    from: &[u8],
+    start: usize,
+    values: &mut [W],
+) -> bool
+    requires few { before + count ≤ 4 }
+    requires room { start + 64 * count ≤ length from.now }
+    requires block { length values.old ≡ 256 }
+    ensures set { result ≡ true → (v i : ℕ) (d : W) → v < count → i < 64
+        → W.number (slice_index_or values.new (64 * (before + v) + i) d)
+        ≡ slice_index from.now (start + (count * i + v)) }
+    ensures kept { result ≡ true → (j : ℕ) (d : W)
+        → (j < 64 * before) ⊎ (64 * (before + count) ≤ j)
+        → slice_index_or values.new j d ≡ slice_index_or values.old j d }
+    ensures same { result ≡ false → values.new ≡ values.old }
+{
+    let pixels = &from[start..start + 64 * count];
+    W::split(
+        count,
+        pixels,
+        &mut values[64 * before..64 * before + 64 * count],
+    )
 }
 
 // Fills the values of a plane for n pixels from x on: value `before` + e is element e of a pixel.
@@ -173,7 +195,7 @@ fn read_plane<W: WholeNumber>(
     ensures small { AreBelow W.number values.old 4 (2 ^ bits elem)
         → AreBelow W.number values.new 4 (2 ^ bits elem) }
 {
-    let done = read_three(elem, count, before, from, x, n, values);
+    let done = read_whole(elem, count, before, from, x, n, values);
     for e in done..count {
         let stride = Stride {
             start: x * count + e,

@@ -1,7 +1,7 @@
-ghost use Rattle.std.specs.Prelude.{◌≡◌, ℕ, ◌+◌, ◌*◌, ◌/◌, ◌%◌, ◌^◌, ◌<◌, ◌≤◌, ◌⊎◌, true, false, length};
+ghost use Rattle.std.specs.Prelude.{◌≡◌, ℕ, ◌+◌, ◌*◌, ◌/◌, ◌%◌, ◌^◌, ◌<◌, ◌≤◌, true, false, length};
 ghost use Rattle.std.specs.Prelude.{slice_index, slice_index_or};
 
-use crate::lanes::{join_block, split_block};
+use kernel_lane::{join_pixels, split_pixels};
 
 /// A whole number of a block, in 8, 16 or 32 bits.
 pub trait WholeNumber: Copy {
@@ -39,28 +39,22 @@ pub trait WholeNumber: Copy {
         requires { number self + number addend < 2 ^ bits }
         ensures { number result ≡ number self + number addend };
 
-    /// Splits the three bytes of each of the 64 pixels of a block, which begin at `start`, where
-    /// there is a fast way for these numbers.
-    fn split_three(from: &[u8], start: usize, values: &mut [Self]) -> bool
-        requires from { start + 192 ≤ length from.now }
-        requires block { length values.old ≡ 256 }
-        ensures set { result ≡ true → (v i : ℕ) (d : Self) → v < 3 → i < 64
+    /// Splits the `count` bytes of each of 64 pixels, where there is a fast way for these numbers:
+    /// value v of pixel i is then at `64 * v + i`.
+    fn split(count: usize, from: &[u8], values: &mut [Self]) -> bool
+        requires sizes { (length from.now ≡ 64 * count) × (length values.old ≡ 64 * count) }
+        ensures set { result ≡ true → (v i : ℕ) (d : Self) → v < count → i < 64
             → number (slice_index_or values.new (64 * v + i) d)
-            ≡ slice_index from.now (start + (3 * i + v)) }
-        ensures rest { (j : ℕ) (d : Self) → 192 ≤ j → j < 256
-            → slice_index_or values.new j d ≡ slice_index_or values.old j d }
+            ≡ slice_index from.now (count * i + v) }
         ensures same { result ≡ false → values.new ≡ values.old };
 
-    /// Puts the first three values of the 64 pixels of a block, a byte each, from `start` on, where
-    /// there is a fast way.
-    fn join_three(values: &[Self], start: usize, to: &mut [u8]) -> bool
-        requires block { length values.now ≡ 256 }
-        requires to { start + 192 ≤ length to.old }
-        ensures set { result ≡ true → (v i : ℕ) (d : Self) → v < 3 → i < 64
-            → slice_index to.new (start + (3 * i + v))
+    /// The way back: puts the `count` values of 64 pixels, a byte each, one pixel after the other,
+    /// where there is a fast way.
+    fn join(count: usize, values: &[Self], to: &mut [u8]) -> bool
+        requires sizes { (length values.now ≡ 64 * count) × (length to.old ≡ 64 * count) }
+        ensures set { result ≡ true → (v i : ℕ) (d : Self) → v < count → i < 64
+            → slice_index to.new (count * i + v)
             ≡ number (slice_index_or values.now (64 * v + i) d) }
-        ensures kept { result ≡ true → (k : ℕ) → (k < start) ⊎ (start + 192 ≤ k)
-            → slice_index to.new k ≡ slice_index to.old k }
         ensures same { result ≡ false → to.new ≡ to.old };
 }
 
@@ -93,13 +87,25 @@ impl WholeNumber for u8 {
         self + addend
     }
 
-    fn split_three(from: &[u8], start: usize, values: &mut [u8]) -> bool {
-        split_block(from, start, values);
+    fn split(count: usize, from: &[u8], values: &mut [u8]) -> bool {
+        match count {
+            1 => values.copy_from_slice(from),
+            2 => split_pixels::<2>(from, values),
+            3 => split_pixels::<3>(from, values),
+            4 => split_pixels::<4>(from, values),
+            _ => return false,
+        }
         true
     }
 
-    fn join_three(values: &[u8], start: usize, to: &mut [u8]) -> bool {
-        join_block(values, start, to);
+    fn join(count: usize, values: &[u8], to: &mut [u8]) -> bool {
+        match count {
+            1 => to.copy_from_slice(values),
+            2 => join_pixels::<2>(values, to),
+            3 => join_pixels::<3>(values, to),
+            4 => join_pixels::<4>(values, to),
+            _ => return false,
+        }
         true
     }
 }
@@ -133,11 +139,11 @@ impl WholeNumber for u16 {
         self + addend
     }
 
-    fn split_three(_from: &[u8], _start: usize, _values: &mut [u16]) -> bool {
+    fn split(_count: usize, _from: &[u8], _values: &mut [u16]) -> bool {
         false
     }
 
-    fn join_three(_values: &[u16], _start: usize, _to: &mut [u8]) -> bool {
+    fn join(_count: usize, _values: &[u16], _to: &mut [u8]) -> bool {
         false
     }
 }
@@ -171,11 +177,11 @@ impl WholeNumber for u32 {
         self + addend
     }
 
-    fn split_three(_from: &[u8], _start: usize, _values: &mut [u32]) -> bool {
+    fn split(_count: usize, _from: &[u8], _values: &mut [u32]) -> bool {
         false
     }
 
-    fn join_three(_values: &[u32], _start: usize, _to: &mut [u8]) -> bool {
+    fn join(_count: usize, _values: &[u32], _to: &mut [u8]) -> bool {
         false
     }
 }

@@ -1,6 +1,6 @@
 // The elements of the pixels of a block, written to the rows of planes.
-ghost use Rattle.std.specs.Prelude.{◌≡◌, ◌≢◌, ℕ, ◌+◌, ◌*◌, ◌^◌, ◌<◌, ◌≤◌, ◌⊎◌, true, length, sum};
-ghost use Rattle.std.specs.Prelude.{slice_index, slice_index_or};
+ghost use Rattle.std.specs.Prelude.{◌≡◌, ◌≢◌, ℕ, ◌+◌, ◌*◌, ◌^◌, ◌<◌, ◌≤◌, ◌⊎◌, true, false, length};
+ghost use Rattle.std.specs.Prelude.{sum, slice_index, slice_index_or};
 ghost use Rattle.op_list.specs.Types.{bits, bytes, is_whole_type};
 ghost use Rattle.op_list.specs.Pixel.{element};
 ghost use Rattle.op_list.specs.declared.types.PixType.TheVariants.{U8, U16, U32};
@@ -111,9 +111,9 @@ fn write_double_words<W: WholeNumber>(
     }
 }
 
-// Writes the three values of a whole block of bytes, where they are all of a plane, the first, and
-// there is a fast way. It answers how many values it wrote.
-fn write_three<W: WholeNumber>(
+// Writes the values of a plane for a whole block of bytes, where there is a fast way. It answers
+// how many it wrote: all of them or none.
+fn write_whole<W: WholeNumber>(
     elem: PixType,
     count: usize,
     before: usize,
@@ -122,33 +122,49 @@ fn write_three<W: WholeNumber>(
     n: usize,
     to: &mut [u8],
 ) -> usize
+    requires few { before + count ≤ 4 }
     requires room { (x + n) * count * bytes elem ≤ length to.old }
     requires block { length values.now ≡ 256 }
     ensures few { result ≤ count }
-    ensures first { (before ≡ 0) ⊎ (result ≡ 0) }
     ensures set { (e i : ℕ) (d : W) → e < result → i < n
         → element elem to.new ((x + i) * count + e)
-        ≡ W.number (slice_index_or values.now (64 * e + i) d) }
+        ≡ W.number (slice_index_or values.now (64 * (before + e) + i) d) }
     ensures kept { (k : ℕ) → (k < x * count) ⊎ ((x + n) * count ≤ k)
         → element elem to.new k ≡ element elem to.old k }
 {
     let PixType::U8 = elem else {
         return 0;
     };
-    if before != 0 {
-        return 0;
-    }
-    if count != 3 {
-        return 0;
-    }
     if n != 64 {
         return 0;
     }
-    if W::join_three(values, x * 3, to) {
-        3
+    if join_part(count, before, values, x * count, to) {
+        count
     } else {
         0
     }
+}
+
+// Joins the values from `before` on of 64 pixels, a byte each, from `start` on.
+fn join_part<W: WholeNumber>(
+    count: usize,
+    before: usize,
+    values: &[W],
+    start: usize,
+    to: &mut [u8],
+) -> bool
+    requires few { before + count ≤ 4 }
+    requires room { start + 64 * count ≤ length to.old }
+    requires block { length values.now ≡ 256 }
+    ensures set { result ≡ true → (v i : ℕ) (d : W) → v < count → i < 64
+        → slice_index to.new (start + (count * i + v))
+        ≡ W.number (slice_index_or values.now (64 * (before + v) + i) d) }
+    ensures kept { result ≡ true → (k : ℕ) → (k < start) ⊎ (start + 64 * count ≤ k)
+        → slice_index to.new k ≡ slice_index to.old k }
+    ensures same { result ≡ false → to.new ≡ to.old }
+{
+    let part = &values[64 * before..64 * before + 64 * count];
+    W::join(count, part, &mut to[start..start + 64 * count])
 }
 
 // Writes the values of a plane for n pixels from x on: element e of a pixel is value `before` + e.
@@ -172,7 +188,7 @@ fn write_plane<W: WholeNumber>(
     ensures kept { (k : ℕ) → (k < x * count) ⊎ ((x + n) * count ≤ k)
         → element elem to.new k ≡ element elem to.old k }
 {
-    let done = write_three(elem, count, before, values, x, n, to);
+    let done = write_whole(elem, count, before, values, x, n, to);
     for e in done..count {
         let stride = Stride {
             start: x * count + e,

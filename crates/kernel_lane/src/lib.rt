@@ -2,18 +2,23 @@
 //! orders, shifts, picks, widths, products, quotients and limits. None takes memory.
 #![tactic(auto)]
 
+mod blocks;
 mod bytes;
 mod lanes;
 mod numerators;
+mod pairs;
 mod parts;
 mod picks;
 mod px;
 mod rule;
 mod shifts;
+mod sixteen;
 #[cfg(test)]
 mod tests;
+mod triples;
 mod widths;
 
+pub use blocks::{join_pixels, split_pixels};
 pub use bytes::{swap_u16, swap_u32};
 pub use lanes::{change_part, merge_few, merge_part};
 pub use numerators::{clamp, floor_div, mul_add};

@@ -6,10 +6,10 @@ use Rattle.std.proofs.lemmas.List.{get_or_append_left, get_or-append_right}
 use Rattle.std.proofs.lemmas.Simd.{get_or-chunk, length-chunk}
 use Rattle.std.specs.Simd.Lanes.{chunk}
 
--- of the first two parts of sixteen bytes
-pub of_two : (from : List ℕ) (at k : ℕ) → at + 48 ≤ length from → k < 32
+-- of two parts of sixteen bytes that stand together
+pub of_parts : (from : List ℕ) (at k : ℕ) → at + 32 ≤ length from → k < 32
     → get_or (chunk at 16 from ++ chunk (at + 16) 16 from) k 0 ≡ get_or from (at + k) 0
-of_two from at k room small =
+of_parts from at k room small =
     let long : length (chunk at 16 from) ≡ 16 = length-chunk at 16 from (omega arith) in
     ⊎_elim
     (λ (lt : k < 16). get_or_append_left (chunk at 16 from) (chunk (at + 16) 16 from) 0 k (omega arith) ∙ get_or-chunk at 16 from k 0 lt)
@@ -18,6 +18,11 @@ of_two from at k room small =
     get_or-append_right (chunk at 16 from) (chunk (at + 16) 16 from) 16 k 0 long ge
     ∙ get_or-chunk (at + 16) 16 from (k - 16) 0 (omega arith) ∙ ap (λ t. get_or from t 0) position)
     (cases_lt k 16)
+
+-- of the first two of three
+pub of_two : (from : List ℕ) (at k : ℕ) → at + 48 ≤ length from → k < 32
+    → get_or (chunk at 16 from ++ chunk (at + 16) 16 from) k 0 ≡ get_or from (at + k) 0
+of_two from at k room small = of_parts from at k (omega (arith, room)) small
 
 -- of the third one
 pub of_third : (from : List ℕ) (at k m : ℕ) → k < 16 → 32 + k ≡ m → get_or (chunk (at + 32) 16 from) k 0 ≡ get_or from (at + m) 0
@@ -125,14 +130,14 @@ third_is from at (suc (suc (suc (suc (suc (suc (suc (suc (suc (suc (suc (suc (su
 
 -- ---- the way back
 -- of value 0 and value 1
-pub of_pair : (values : List ℕ) (at k m : ℕ) → at + 16 ≤ 64 → length values ≡ 256 → k < 16 → at + k ≡ m
+pub of_pair : (values : List ℕ) (at k m : ℕ) → at + 16 ≤ 64 → length values ≡ 192 → k < 16 → at + k ≡ m
     → get_or (chunk at 16 values ++ chunk (64 + at) 16 values) k 0 ≡ get_or values m 0
 of_pair values at k m room size small same =
     let long : length (chunk at 16 values) ≡ 16 = length-chunk at 16 values (omega arith) in
     get_or_append_left (chunk at 16 values) (chunk (64 + at) 16 values) 0 k (omega arith) ∙ get_or-chunk at 16 values k 0 small
     ∙ ap (λ t. get_or values t 0) same
 
-pub of_pair_right : (values : List ℕ) (at k j m : ℕ) → at + 16 ≤ 64 → length values ≡ 256 → j < 16 → 16 + j ≡ k → 64 + (at + j) ≡ m
+pub of_pair_right : (values : List ℕ) (at k j m : ℕ) → at + 16 ≤ 64 → length values ≡ 192 → j < 16 → 16 + j ≡ k → 64 + (at + j) ≡ m
     → get_or (chunk at 16 values ++ chunk (64 + at) 16 values) k 0 ≡ get_or values m 0
 of_pair_right values at k j m room size small same position =
     let long : length (chunk at 16 values) ≡ 16 = length-chunk at 16 values (omega arith) in
@@ -157,7 +162,7 @@ first_bytes values at = pair values at 0 ∷ pair values at 16 ∷ last values a
     ∷ pair values at 2 ∷ pair values at 18 ∷ last values at 2 ∷ pair values at 3 ∷ pair values at 19 ∷ last values at 3 ∷ pair values at 4
     ∷ pair values at 20 ∷ last values at 4 ∷ pair values at 5 ∷ []
 
-pub first_bytes_are : (values : List ℕ) (at t : ℕ) → at + 16 ≤ 64 → length values ≡ 256 → t < 16
+pub first_bytes_are : (values : List ℕ) (at t : ℕ) → at + 16 ≤ 64 → length values ≡ 192 → t < 16
     → get_or (first_bytes values at) t 0 ≡ get_or values (64 * ((0 + t) % 3) + (at + (0 + t) / 3)) 0
 first_bytes_are values at zero room size small = of_pair values at 0 (0 + (at + 0)) room size (omega arith) (omega arith)
 first_bytes_are values at (suc zero) room size small = of_pair_right values at 16 0 (64 + (at + 0)) room size (omega arith) refl refl
@@ -194,7 +199,7 @@ second_bytes values at = pair values at 21 ∷ last values at 5 ∷ pair values 
     ∷ pair values at 23 ∷ last values at 7 ∷ pair values at 8 ∷ pair values at 24 ∷ last values at 8 ∷ pair values at 9 ∷ pair values at 25
     ∷ last values at 9 ∷ pair values at 10 ∷ pair values at 26 ∷ []
 
-pub second_bytes_are : (values : List ℕ) (at t : ℕ) → at + 16 ≤ 64 → length values ≡ 256 → t < 16
+pub second_bytes_are : (values : List ℕ) (at t : ℕ) → at + 16 ≤ 64 → length values ≡ 192 → t < 16
     → get_or (second_bytes values at) t 0 ≡ get_or values (64 * ((16 + t) % 3) + (at + (16 + t) / 3)) 0
 second_bytes_are values at zero room size small = of_pair_right values at 21 5 (64 + (at + 5)) room size (omega arith) refl refl
 second_bytes_are values at (suc zero) room size small = of_last values at 5 (128 + (at + 5)) (omega arith) refl
@@ -232,7 +237,7 @@ third_bytes values at = last values at 10 ∷ pair values at 11 ∷ pair values 
     ∷ pair values at 28 ∷ last values at 12 ∷ pair values at 13 ∷ pair values at 29 ∷ last values at 13 ∷ pair values at 14
     ∷ pair values at 30 ∷ last values at 14 ∷ pair values at 15 ∷ pair values at 31 ∷ last values at 15 ∷ []
 
-pub third_bytes_are : (values : List ℕ) (at t : ℕ) → at + 16 ≤ 64 → length values ≡ 256 → t < 16
+pub third_bytes_are : (values : List ℕ) (at t : ℕ) → at + 16 ≤ 64 → length values ≡ 192 → t < 16
     → get_or (third_bytes values at) t 0 ≡ get_or values (64 * ((32 + t) % 3) + (at + (32 + t) / 3)) 0
 third_bytes_are values at zero room size small = of_last values at 10 (128 + (at + 10)) (omega arith) refl
 third_bytes_are values at (suc zero) room size small = of_pair values at 11 (0 + (at + 11)) room size (omega arith) (omega arith)
