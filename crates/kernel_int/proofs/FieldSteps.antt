@@ -40,13 +40,6 @@ width_most widths v size small =
     four_cases (λ t. slice_index widths t ≤ sum widths) v small (omega (arith, all)) (omega (arith, all)) (omega (arith, all))
     (omega (arith, all))
 
-pub below_most : (widths : List ℕ) (v : ℕ) → length widths ≡ 4 → v < 4 → bits_below widths v ≤ sum widths
-below_most widths v size small =
-    let all = sum_four widths size in
-    four_cases (λ t. bits_below widths t ≤ sum widths) v small
-    (omega (arith, all, bits_below_first widths size)) (omega (arith, all, bits_below_second widths size))
-    (omega (arith, all, bits_below_third widths size)) (omega (arith, all, bits_below_fourth widths size))
-
 -- a field and what lies below it
 pub field_room : (widths : List ℕ) (v : ℕ) → length widths ≡ 4 → v < 4 → bits_below widths v + slice_index widths v ≤ sum widths
 field_room widths v size small =
@@ -81,12 +74,6 @@ copied_first {W} from to same i d within =
 abbrev pub Unpacks : {W : Type 0} → (W → ℕ) → List ℕ → ℕ → List W → List W → Type 0
 Unpacks {W} digits widths count old new = (v i : ℕ) (d : W) → v < count → i < 64
     → digits (slice_index_or new (64 * v + i) d) ≡ digits (slice_index_or old i d) / 2 ^ bits_below widths v % 2 ^ slice_index widths v
-
-pub unpack_fits : (stage : Stage) (widths : List ℕ) (n v bits : ℕ) → length widths ≡ 4 → v < 4 → are_good stage (Unpack widths) ≡ true
-    → 2 ^ bits_at (stage_after stage (Unpack widths)) ≤ 2 ^ bits → n / 2 ^ bits_below widths v % 2 ^ slice_index widths v < 2 ^ bits
-unfolding stage_after
-unpack_fits stage widths n v bits size small good stored =
-    omega (arith, field_small widths n v (bits_at stage) size small (unpack_sum stage widths good), stored)
 
 pub unpack_bounded : {W N : Type 0} (digits : W → ℕ) (value : N → ℤ) (stage : Stage) (widths : List ℕ) (before after : Form)
     (old new : List W) (numbers : List N)

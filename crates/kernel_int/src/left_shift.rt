@@ -1,8 +1,7 @@
 // Whole numbers times a power of two.
-ghost use Rattle.std.specs.Prelude.{◌≡◌, ℕ, ◌*◌, ◌/◌, ◌%◌, ◌^◌, ◌<◌, ◌≤◌, ◌⊎◌, true, length};
-ghost use Rattle.op_list.specs.Types.{bits_at, bits, is_whole_type, is_rational};
+ghost use Rattle.std.specs.Prelude.{◌≡◌, ℕ, ◌*◌, ◌/◌, ◌%◌, ◌^◌, ◌<◌, ◌≤◌, true, length};
+ghost use Rattle.op_list.specs.Types.{bits_at};
 ghost use Rattle.op_list.specs.Typing.{may_follow, are_good, stage_after};
-ghost use Rattle.op_list.specs.Whole.{reversed_bytes};
 ghost use Rattle.kernel_int.specs.Forms.{IsBounded, IsStep, Performs};
 
 use crate::form::Form;

@@ -1,6 +1,6 @@
 // The fields of a whole number.
 ghost use Rattle.std.specs.Prelude.{◌≡◌, ℕ, ◌+◌, ◌*◌, ◌/◌, ◌%◌, ◌^◌, ◌<◌, ◌≤◌, ◌⊎◌, true, length};
-ghost use Rattle.std.specs.Prelude.{slice_index, slice_index_or, IfSome};
+ghost use Rattle.std.specs.Prelude.{slice_index_or, IfSome};
 ghost use Rattle.op_list.specs.Types.{bits_at};
 ghost use Rattle.op_list.specs.Typing.{may_follow, are_good, stage_after};
 ghost use Rattle.kernel_int.specs.Forms.{IsBounded, IsStep, Performs};

@@ -1,4 +1,4 @@
-use Rattle.std.proofs.Common.{◌/◌, ◌%◌, ◌^◌, ap, ◌∙◌, arith, slice_index, slice_index_or}
+use Rattle.std.proofs.Common.{◌/◌, ◌%◌, ◌^◌, ap, ◌∙◌, arith, slice_index}
 use Rattle.op_list.specs.Whole.{bits_below}
 use Rattle.kernel_int.proofs.FieldSteps.{Unpacks, copied_first, unpack_bounded, unpack_performs, unpack_room}
 use Rattle.kernel_int.proofs.unpack.unpack_step.Goals as goal

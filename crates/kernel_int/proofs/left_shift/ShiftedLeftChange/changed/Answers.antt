@@ -1,4 +1,4 @@
-use Rattle.std.proofs.Common.{◌≡◌, ◌+◌, ◌*◌, ◌/◌, ◌%◌, ◌^◌, ◌-◌, ap, ◌∙◌, arith}
+use Rattle.std.proofs.Common.{◌≡◌, ◌+◌, ◌/◌, ◌^◌, ◌-◌, ap, ◌∙◌, arith}
 use Rattle.kernel_int.proofs.Shifts.{raised_and_lowered}
 use Rattle.kernel_int.proofs.left_shift.ShiftedLeftChange.changed.Goals as goal
 
