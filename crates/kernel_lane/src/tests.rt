@@ -4,9 +4,9 @@ ghost use Rattle.kernel_lane.specs.Rows.{ForEach};
 ghost use Rattle.kernel_lane.specs.Rules.{IsLaneCount};
 
 use crate::{
-    Change, Merge, change_front, change_part, clamp, expand, fill_part, floor_div, merge_few,
-    merge_front, merge_part, merge_within, mul_add, narrow, pick, shift_left, shift_right,
-    swap_u16, swap_u32, widen,
+    Change, Merge, change_front, change_part, clamp, expand, fill_part, floor_div, join_pixels,
+    merge_few, merge_front, merge_part, merge_within, mul_add, narrow, pick, shift_left,
+    shift_right, split_pixels, swap_u16, swap_u32, widen,
 };
 use std::process::Abort;
 
@@ -338,6 +338,36 @@ fn parts_equal_their_plain_rules(rt: HostRuntime) {
     check_parts::<32>(&rt);
     check_parts::<33>(&rt);
     check_parts::<70>(&rt);
+}
+
+// Bytes of C values for each of 64 pixels, taken apart and put together again.
+fn check_pixels<const C: usize>(rt: &impl Abort)
+    requires count { (2 ≤ C) × (C ≤ 4) }
+{
+    let mut pixels = [0u8; 256];
+    for i in 0..256 {
+        pixels[i] = (sample(i) / 256) as u8;
+    }
+    let mut values = [9u8; 256];
+    let mut back = [9u8; 256];
+    split_pixels::<C>(&pixels[..64 * C], &mut values[..64 * C]);
+    join_pixels::<C>(&values[..64 * C], &mut back[..64 * C]);
+    for k in 0..64 * C {
+        let i = k / C;
+        let v = k % C;
+        assert_eq!(rt; values[64 * v + i], pixels[k]);
+        assert_eq!(rt; back[k], pixels[k]);
+    }
+    for k in 64 * C..256 {
+        assert_eq!(rt; (values[k], back[k]), (9, 9));
+    }
+}
+
+#[test]
+fn pixels_equal_their_plain_rules(rt: HostRuntime) {
+    check_pixels::<2>(&rt);
+    check_pixels::<3>(&rt);
+    check_pixels::<4>(&rt);
 }
 
 fn check_all<const N: usize>(rt: &impl Abort)
