@@ -31,13 +31,6 @@ typed_there Ended (Read elem planes palette) h other = cc
 typed_there Ended (Write elem planes) h other = cc
 typed_there Ended op h other = cc
 
-nothing_behind : (stage : Stage) (op next : Op) → is_write op ≡ true → may_follow (stage_after stage op) next ≡ true → ⊥
-unfolding may_follow stage_after
-nothing_behind stage (Write elem planes) (Read other counts palette) w h = cc
-nothing_behind stage (Write elem planes) (Write other counts) w h = cc
-nothing_behind stage (Write elem planes) next w h = cc
-nothing_behind stage op next w h = cc
-
 -- the values have a type before an operation that is not the first
 pub typed_before : (ops : List Op) (k : ℕ) → are_typed Start ops ≡ true → 0 < k → k < length ops → is_typed (stage_before ops k) ≡ true
 typed_before ops k typed some within =
@@ -47,15 +40,6 @@ typed_before ops k typed some within =
     typed_there (stage_before ops k) (op_at ops k) (follows_at ops k typed within)
     (subst (λ s. is_start s ≡ false) stage_is
     (not_start (stage_before ops (k - 1)) (op_at ops (k - 1)) (follows_at ops (k - 1) typed (omega (arith, within)))))
-
--- an operation with one behind it is no Write
-pub no_write : (ops : List Op) (k : ℕ) → are_typed Start ops ≡ true → k + 1 < length ops → is_write (op_at ops k) ≡ false
-no_write ops k typed within = (elim (is_write (op_at ops k)) as (λ t. is_write (op_at ops k) ≡ t → is_write (op_at ops k) ≡ false) [
-  | true ↦ λ w. absurd (nothing_behind (stage_before ops k) (op_at ops k) (op_at ops (k + 1)) w
-      (subst (λ s. may_follow s (op_at ops (k + 1)) ≡ true) (stage_more ops k (omega (arith, within)))
-      (follows_at ops (k + 1) typed within)))
-  | false ↦ λ w. w
-]) refl
 
 -- what is read is whole numbers
 pub joint_first : (ops : List Op) (form : Form) (width : Width) → are_typed Start ops ≡ true → 0 < length ops → form.count ≡ 4

@@ -26,7 +26,8 @@ kept_width old d size e has = record {
 }
 
 -- an entry alone, over a multiple of its denominator
-pub constant_width : (number_width : NumberWidth) (x : ℚ) (k : ℤ) (new : Extent) (d e : ℕ) → e / x.denominator * x.denominator ≡ e → IsConstant (width_of number_width) x k new
+pub constant_width : (number_width : NumberWidth) (x : ℚ) (k : ℤ) (new : Extent) (d e : ℕ) → e / x.denominator * x.denominator ≡ e
+    → IsConstant (width_of number_width) x k new
     → HasWidth new (d * e) (size_over e x * d)
 constant_width number_width x k new d e whole is =
     let denominator : unsigned_abs new.denominator ≡ x.denominator = ap unsigned_abs is.denominator in

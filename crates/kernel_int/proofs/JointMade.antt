@@ -58,7 +58,8 @@ pub size_of_value : (d : ℕ) (f : ℕ → ℕ) (next : Width) (v : ℕ) → v <
 size_of_value d f next v below same = same.sizes v below ∙ get_or-four f v 0 below
 
 -- ---- Scale
-pub scale_fits : (number_width : NumberWidth) (by : ℚ) (v : ℕ) (old : Extent) (w next : Width) (e d : ℕ) → AreSame next (scaled_width by w) → IsSmall number_width w → IsSmall number_width next
+pub scale_fits : (number_width : NumberWidth) (by : ℚ) (v : ℕ) (old : Extent) (w next : Width) (e d : ℕ) → AreSame next (scaled_width by w)
+    → IsSmall number_width w → IsSmall number_width next
     → v < 4
     → HasWidth old w.denominator (size_in w v) → MadeFits number_width (Scale by) v old e d
 scale_fits number_width by v old w next e d same small next_small below has =
@@ -87,7 +88,8 @@ more_limited : (e a d s n : ℕ) (limit : Option ℚ) → a ≤ d → s ≤ n �
 more_limited e a d s n None low most = mul-le-mul_right e most
 more_limited e a d s n (Some x) low most = omega (arith, mul-le-mul_right e most, mul-le-mul_left (size_over e x) low)
 
-is_limit : (number_width : NumberWidth) (limits : List (Option ℚ)) (v : ℕ) → entries_denominator limits < room number_width → IsLimit number_width (entries_denominator limits) (entry limits v)
+is_limit : (number_width : NumberWidth) (limits : List (Option ℚ)) (v : ℕ) → entries_denominator limits < room number_width
+    → IsLimit number_width (entries_denominator limits) (entry limits v)
 is_limit number_width limits v small = (entries_positive limits, small, each (entry limits v) refl)
   where
     each : (limit : Option ℚ) → entry limits v ≡ limit
@@ -102,7 +104,8 @@ pub record LimitFits (number_width : NumberWidth) (limits : List (Option ℚ)) (
   pub size : limited_size (entries_denominator limits) (unsigned_abs old.denominator) (entry limits v) (extent_size old) < room number_width
   pub factors : IsLimit number_width (entries_denominator limits) (entry limits v)
 
-pub limit_fits : (number_width : NumberWidth) (limits : List (Option ℚ)) (v : ℕ) (old : Extent) (w next : Width) → AreSame next (limited_width limits w) → IsSmall number_width w
+pub limit_fits : (number_width : NumberWidth) (limits : List (Option ℚ)) (v : ℕ) (old : Extent) (w next : Width)
+    → AreSame next (limited_width limits w) → IsSmall number_width w
     → IsSmall number_width next → v < 4
     → HasWidth old w.denominator (size_in w v) → LimitFits number_width limits v old
 limit_fits number_width limits v old w next same small next_small below has =
@@ -149,7 +152,8 @@ dither_quotient : (old : Extent) (d size f : ℕ) → 0 < d * f → (has : HasWi
 dither_quotient old d size f some has = quotient_of (unsigned_abs old.denominator) (has.factor * f) (d * f) some
     (omega (arith, ap (λ x. x * f) has.over))
 
-pub dither_fits : (number_width : NumberWidth) (k v : ℕ) (old : Extent) (w next : Width) (e : ℕ) → k ≤ 4 → AreSame next (dithered_width k w) → IsSmall number_width w → IsSmall number_width next
+pub dither_fits : (number_width : NumberWidth) (k v : ℕ) (old : Extent) (w next : Width) (e : ℕ) → k ≤ 4
+    → AreSame next (dithered_width k w) → IsSmall number_width w → IsSmall number_width next
     → v < 4
     → HasWidth old w.denominator (size_in w v) → MadeFits number_width (Dither k) v old e next.denominator
 dither_fits number_width k v old w next e few same small next_small below has =
@@ -179,7 +183,8 @@ dither_fits number_width k v old w next e few same small next_small below has =
       );
     }
 
-pub dither_width : (number_width : NumberWidth) (k v : ℕ) (old new : Extent) (w next : Width) → AreSame next (dithered_width k w) → IsSmall number_width w → IsSmall number_width next → v < 4
+pub dither_width : (number_width : NumberWidth) (k v : ℕ) (old new : Extent) (w next : Width) → AreSame next (dithered_width k w)
+    → IsSmall number_width w → IsSmall number_width next → v < 4
     → HasWidth old w.denominator (size_in w v) → pos 0 <ℤ new.denominator → unsigned_abs new.denominator ≡ next.denominator
     → extent_size new ≤ extent_size old * (next.denominator / unsigned_abs old.denominator) + next.denominator
     → HasWidth new next.denominator (size_in next v)
@@ -205,7 +210,8 @@ term_below e d size c old some has =
     at_most : (s q g n : ℕ) → q ≡ g → s * g ≤ n → s * q ≤ n
     at_most s q g n is h = omega (arith, ap (λ x. s * x) is, h)
 
-pub row_fits : (number_width : NumberWidth) (rows : List (List ℚ)) (v : ℕ) (before : Form) (w next : Width) → before.count ≡ 4 → AreSame next (mapped_width rows w)
+pub row_fits : (number_width : NumberWidth) (rows : List (List ℚ)) (v : ℕ) (before : Form) (w next : Width) → before.count ≡ 4
+    → AreSame next (mapped_width rows w)
     → IsSmall number_width w → IsSmall number_width next → v < 4
     → ((j : ℕ) → j < 4 → HasWidth (extent_at before j) w.denominator (size_in w j))
     → RowWithin number_width (rows_denominator rows) w.denominator (row_of rows v) before
@@ -233,7 +239,8 @@ row_fits number_width rows v before w next count same small next_small below has
       );
     }
 
-pub row_width : (number_width : NumberWidth) (rows : List (List ℚ)) (v : ℕ) (before : Form) (new : Extent) (w next : Width) → AreSame next (mapped_width rows w)
+pub row_width : (number_width : NumberWidth) (rows : List (List ℚ)) (v : ℕ) (before : Form) (new : Extent) (w next : Width)
+    → AreSame next (mapped_width rows w)
     → IsSmall number_width w → v < 4
     → ((j : ℕ) → j < 4 → HasWidth (extent_at before j) w.denominator (size_in w j)) → pos 0 <ℤ new.denominator
     → unsigned_abs new.denominator ≡ w.denominator * rows_denominator rows

@@ -1,5 +1,5 @@
 -- A row of Linear, within the width of a list.
-use Rattle.std.proofs.Common.{◌≡◌, ℕ, ◌+◌, ◌*◌, ◌/◌, ◌^◌, ◌<◌, ◌≤◌, ◌⊎◌, inl, inr, ⊎_elim, List, ℤ, pos, negsuc, ◌*ℤ◌}
+use Rattle.std.proofs.Common.{◌≡◌, ℕ, ◌+◌, ◌*◌, ◌/◌, ◌^◌, ◌<◌, ◌≤◌, ◌⊎◌, inl, inr, ⊎_elim, List, ℤ, pos, ◌*ℤ◌}
 use Rattle.std.proofs.Common.{ap, ◌∙◌, arith}
 use Rattle.std.specs.Prelude.{unsigned_abs}
 use Rattle.std.proofs.Math.IntN.{pos-*ℤ-pos}
@@ -57,7 +57,8 @@ next_size : (s k n : ℤ) (m t : ℕ) → unsigned_abs s ≤ m → unsigned_abs 
 unfolding with_product
 next_size s k n m t sum product = omega (arith, abs_sum s (k *ℤ n), sum, product)
 
-pub row_is : (number_width : NumberWidth) (before : Form) (row : List ℚ) (factors : List ℤ) (new : Extent) (d size : ℕ) → before.count ≡ 4 → 0 < d → IsAround new d size
+pub row_is : (number_width : NumberWidth) (before : Form) (row : List ℚ) (factors : List ℤ) (new : Extent) (d size : ℕ) → before.count ≡ 4
+    → 0 < d → IsAround new d size
     → size < room number_width
     → ((j : ℕ) → j < 4 → IsTerm before (fraction_in row j) (factor factors j) d j)
     → factor factors 4 *ℤ pos (fraction_in row 4).denominator ≡ (fraction_in row 4).numerator *ℤ pos d
@@ -112,13 +113,15 @@ total_below before factors e d row constant parts =
     omega (arith, constant, parts 0 (omega arith), parts 1 (omega arith), parts 2 (omega arith), parts 3 (omega arith))
 
 -- what is asked of the factor of value j
-pub term_within : (number_width : NumberWidth) (e d : ℕ) (row : List ℚ) (before : Form) (j : ℕ) → RowWithin number_width e d row before → j < 4
+pub term_within : (number_width : NumberWidth) (e d : ℕ) (row : List ℚ) (before : Form) (j : ℕ) → RowWithin number_width e d row before
+    → j < 4
     → term_most e d (fraction_in row j) (extent_at before j) < room number_width
 term_within number_width e d row before j within below =
     four_cases (λ t. term_most e d (fraction_in row t) (extent_at before t) < room number_width) j below
     (omega (arith, within.most)) (omega (arith, within.most)) (omega (arith, within.most)) (omega (arith, within.most))
 
-pub constant_within : (number_width : NumberWidth) (e d : ℕ) (row : List ℚ) (before : Form) → RowWithin number_width e d row before → size_over e (fraction_in row 4) * d < room number_width
+pub constant_within : (number_width : NumberWidth) (e d : ℕ) (row : List ℚ) (before : Form) → RowWithin number_width e d row before
+    → size_over e (fraction_in row 4) * d < room number_width
 constant_within number_width e d row before within = omega (arith, within.most)
 
 pub constant_below : (number_width : NumberWidth) (e d : ℕ) (row : List ℚ) (before : Form) → RowWithin number_width e d row before
@@ -141,7 +144,8 @@ factor_size old c k e d is = omega (
       (extent_size old) is,
 )
 
-pub factor_times : (number_width : NumberWidth) (old : Extent) (c : ℚ) (e d : ℕ) → 0 < unsigned_abs c.numerator → 0 < extent_size old → term_most e d c old < room number_width
+pub factor_times : (number_width : NumberWidth) (old : Extent) (c : ℚ) (e d : ℕ) → 0 < unsigned_abs c.numerator → 0 < extent_size old
+    → term_most e d c old < room number_width
     → (e / c.denominator * (d / unsigned_abs old.denominator) < room number_width)
     × (unsigned_abs c.numerator * (e / c.denominator * (d / unsigned_abs old.denominator)) < room number_width)
 factor_times number_width old c e d some there small = (

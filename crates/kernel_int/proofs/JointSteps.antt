@@ -86,8 +86,8 @@ fractions_made stage (Convert U16 expand) h = cc
 fractions_made stage (Convert U32 expand) h = cc
 fractions_made stage op h = cc
 
-whole_step : (number_width : NumberWidth) (bits : ℕ) (op : Op) (stage : Stage) (before after : Form) (next : Width) → is_rational (stage_after stage op) ≡ false
-    → after.count ≡ 4 → IsStep bits (width_of number_width) stage before op after → IsJointStep number_width bits stage before op after next
+whole_step : (number_width : NumberWidth) (bits : ℕ) (op : Op) (stage : Stage) (before after : Form) (next : Width)
+    → is_rational (stage_after stage op) ≡ false → after.count ≡ 4 → IsStep bits (width_of number_width) stage before op after → IsJointStep number_width bits stage before op after next
 whole_step number_width bits op stage before after next kind count step = record {
   few = omega (arith, count);
   step = step;
@@ -99,44 +99,42 @@ pub swap_bytes_step : (number_width : NumberWidth) (bits : ℕ) (stage : Stage) 
     → IsGiven number_width stage SwapBytes before w next → after.count ≡ 4 → IsJointStep number_width bits stage before SwapBytes after next
 unfolding may_follow stage_after
 swap_bytes_step number_width bits stage before after w next given count =
-    whole_step number_width bits SwapBytes stage before after next (not_wide stage given.follows) count (omega (arith, count, given.joint.count))
+    whole_step number_width bits SwapBytes stage before after next (not_wide stage given.follows) count
+    (omega (arith, count, given.joint.count))
 
 pub unpack_step : (number_width : NumberWidth) (bits : ℕ) (widths : List ℕ) (stage : Stage) (before after : Form) (w next : Width)
-    → IsGiven number_width stage (Unpack widths) before w next → after.count ≡ 4 → IsJointStep number_width bits stage before (Unpack widths) after next
+    → IsGiven number_width stage (Unpack widths) before w next → after.count ≡ 4
+    → IsJointStep number_width bits stage before (Unpack widths) after next
 unfolding may_follow stage_after
 unpack_step number_width bits widths stage before after w next given count =
-    whole_step number_width bits (Unpack widths) stage before after next (not_whole stage given.follows) count (omega (arith, given.joint.count))
+    whole_step number_width bits (Unpack widths) stage before after next (not_whole stage given.follows) count
+    (omega (arith, given.joint.count))
 
 pub pack_step : (number_width : NumberWidth) (bits : ℕ) (widths : List ℕ) (stage : Stage) (before after : Form) (w next : Width)
-    → IsGiven number_width stage (Pack widths) before w next → after.count ≡ 4 → IsJointStep number_width bits stage before (Pack widths) after next
+    → IsGiven number_width stage (Pack widths) before w next → after.count ≡ 4
+    → IsJointStep number_width bits stage before (Pack widths) after next
 unfolding may_follow stage_after
 pack_step number_width bits widths stage before after w next given count =
     whole_step number_width bits (Pack widths) stage before after next (not_whole stage given.follows) count
     (λ j below. inl (omega (arith, below, given.joint.count)))
 
 pub left_shift_step : (number_width : NumberWidth) (bits n : ℕ) (stage : Stage) (before after : Form) (w next : Width)
-    → IsGiven number_width stage (LeftShift n) before w next → after.count ≡ 4 → IsJointStep number_width bits stage before (LeftShift n) after next
+    → IsGiven number_width stage (LeftShift n) before w next → after.count ≡ 4
+    → IsJointStep number_width bits stage before (LeftShift n) after next
 unfolding may_follow stage_after
 left_shift_step number_width bits n stage before after w next given count =
-    whole_step number_width bits (LeftShift n) stage before after next (not_whole stage given.follows) count (omega (arith, count, given.joint.count))
+    whole_step number_width bits (LeftShift n) stage before after next (not_whole stage given.follows) count
+    (omega (arith, count, given.joint.count))
 
 pub right_shift_step : (number_width : NumberWidth) (bits n : ℕ) (stage : Stage) (before after : Form) (w next : Width)
-    → IsGiven number_width stage (RightShift n) before w next → after.count ≡ 4 → IsJointStep number_width bits stage before (RightShift n) after next
+    → IsGiven number_width stage (RightShift n) before w next → after.count ≡ 4
+    → IsJointStep number_width bits stage before (RightShift n) after next
 unfolding may_follow stage_after
 right_shift_step number_width bits n stage before after w next given count =
-    whole_step number_width bits (RightShift n) stage before after next (not_whole stage given.follows) count (omega (arith, count, given.joint.count))
+    whole_step number_width bits (RightShift n) stage before after next (not_whole stage given.follows) count
+    (omega (arith, count, given.joint.count))
 
 -- ---- Clear and Swizzle
-pub cleared_any : (number_width : NumberWidth) (rational : Bool) (before : Form) (v : ℕ) (given : Option ℚ) (k : ℤ) (new : Extent) → IsCleared (width_of number_width) true before v given k new
-    → IsCleared (width_of number_width) rational before v given k new
-cleared_any number_width rational before v None k new is = is
-cleared_any number_width rational before v (Some x) k new is = λ h. is refl
-
-pub cleared_kept : (number_width : NumberWidth) (before after : Form) (v : ℕ) (given : Option ℚ) (k : ℤ) → v < before.count
-    → extent_at after v ≡ extent_at before v → IsCleared (width_of number_width) false before v given k (extent_at after v)
-cleared_kept number_width before after v None k there same = (there, same)
-cleared_kept number_width before after v (Some x) k there same = λ rational. absurd (cc rational)
-
 pub clear_entries : (number_width : NumberWidth) (entries : List (Option ℚ)) (stage : Stage) (before : Form) (w next : Width)
     → IsGiven number_width stage (Clear entries) before w next → is_rational stage ≡ true → (v : ℕ) → v < 4
     → IfSome (entry entries v) (λ x. unsigned_abs x.numerator < room number_width)
@@ -163,7 +161,8 @@ clear_step number_width bits entries stage before after w next given count clear
   };
 }
 
-pub swizzle_from : (number_width : NumberWidth) (from : List ℕ) (stage : Stage) (before : Form) (w next : Width) → IsGiven number_width stage (Swizzle from) before w next
+pub swizzle_from : (number_width : NumberWidth) (from : List ℕ) (stage : Stage) (before : Form) (w next : Width)
+    → IsGiven number_width stage (Swizzle from) before w next
     → All (λ i. i < 4) from
 swizzle_from number_width from stage before w next given = swizzle_lanes stage from given.good
 
@@ -185,20 +184,26 @@ swizzle_step number_width bits from stage before after w next given count moved 
         let size = size_of_value _ (λ i. size_in w (slice_index from i)) next v below same in
         rw (moved v below).same
         (width_same (extent_at before u) w.denominator next.denominator (size_in w u) (size_in next v)
-        (given.joint.extents kind u (index_below from (swizzle_from number_width from stage before w next given) v)) (sym same.denominator) (sym size))
+        (given.joint.extents kind u (index_below from (swizzle_from number_width from stage before w next given) v)) (sym same.denominator)
+        (sym size))
 
 -- ---- Convert
 -- each denominator fits
-denominator_fits : (number_width : NumberWidth) (old : Extent) (d size : ℕ) → 0 < d → d < room number_width → HasWidth old d size → FitsSigned (width_of number_width) old.denominator
-denominator_fits number_width old d size some small has = small_fits number_width old.denominator (unsigned_abs old.denominator) (omega arith)
+denominator_fits : (number_width : NumberWidth) (old : Extent) (d size : ℕ) → 0 < d → d < room number_width → HasWidth old d size
+    → FitsSigned (width_of number_width) old.denominator
+denominator_fits number_width old d size some small has =
+    small_fits number_width old.denominator (unsigned_abs old.denominator) (omega arith)
     (omega (arith, (old_small old d size some has).0, small))
 
 pub divisors_fit : (number_width : NumberWidth) (to : PixType) (expand : Bool) (stage : Stage) (before : Form) (w next : Width)
     → IsGiven number_width stage (Convert to expand) before w next → is_rational stage ≡ true → (v : ℕ) → v < 4
     → (pos 0 <ℤ (extent_at before v).denominator) × FitsSigned (width_of number_width) (extent_at before v).denominator
 divisors_fit number_width to expand stage before w next given kind v below =
-    let has = given.joint.extents kind v below in
-    (has.positive, denominator_fits number_width (extent_at before v) w.denominator (size_in w v) given.small.positive given.small.denominator has)
+    let has = given.joint.extents kind v below in (
+      has.positive,
+      denominator_fits number_width (extent_at before v) w.denominator
+          (size_in w v) given.small.positive given.small.denominator has,
+    )
 
 -- whole numbers that become fractions have small numerators
 pub widened_small : (number_width : NumberWidth) (to : PixType) (expand : Bool) (stage : Stage) (before : Form) (w next : Width)
@@ -220,8 +225,10 @@ kept_width number_width expand stage before after w next kind given count kept v
     (given.joint.extents kind v below) (sym same.denominator) (sym (same.sizes v below)))
 
 -- whole numbers that become fractions
-widened_width : (number_width : NumberWidth) (expand : Bool) (stage : Stage) (before after : Form) (w next : Width) → is_rational stage ≡ false
-    → IsGiven number_width stage (Convert Rat expand) before w next → (v : ℕ) → v < 4 → IsWidened (width_of number_width) (2 ^ bits_at stage) (extent_at after v)
+widened_width : (number_width : NumberWidth) (expand : Bool) (stage : Stage) (before after : Form) (w next : Width)
+    → is_rational stage ≡ false
+    → IsGiven number_width stage (Convert Rat expand) before w next → (v : ℕ) → v < 4
+    → IsWidened (width_of number_width) (2 ^ bits_at stage) (extent_at after v)
     → extent_size (extent_at after v) ≡ 2 ^ bits_at stage - 1 → HasWidth (extent_at after v) next.denominator (size_in next v)
 widened_width number_width expand stage before after w next kind given v below widened sized =
     let same = same_numbers stage (Convert Rat expand) w next kind given.same in
@@ -237,12 +244,15 @@ widened_width number_width expand stage before after w next kind given v below w
 pub record IsRetyped (number_width : NumberWidth) (stage : Stage) (to : PixType) (before after : Form) : Type 0 where
   pub count : after.count ≡ 4
   pub kept : is_rational stage ≡ true → is_whole_type to ≡ false → AreKept before after
-  pub narrowed : is_rational stage ≡ true → is_whole_type to ≡ true → (bits v : ℕ) → v < 4 → IsNarrowed (width_of number_width) bits before after v
+  pub narrowed : is_rational stage ≡ true → is_whole_type to ≡ true → (bits v : ℕ) → v < 4
+      → IsNarrowed (width_of number_width) bits before after v
   pub widened : is_rational stage ≡ false → is_whole_type to ≡ false → (v : ℕ) → v < 4
-      → IsWidened (width_of number_width) (2 ^ bits_at stage) (extent_at after v) × (extent_size (extent_at after v) ≡ 2 ^ bits_at stage - 1)
+      → IsWidened (width_of number_width) (2 ^ bits_at stage) (extent_at after v) ×
+      (extent_size (extent_at after v) ≡ 2 ^ bits_at stage - 1)
 
 retyped_width : (number_width : NumberWidth) (to : PixType) (expand : Bool) (stage : Stage) (before after : Form) (w next : Width)
-    → IsGiven number_width stage (Convert to expand) before w next → IsRetyped number_width stage to before after → is_rational (Typed to) ≡ true
+    → IsGiven number_width stage (Convert to expand) before w next → IsRetyped number_width stage to before after
+    → is_rational (Typed to) ≡ true
     → (v : ℕ) → v < 4 → HasWidth (extent_at after v) next.denominator (size_in next v)
 retyped_width number_width U8 expand stage before after w next given retyped to v below = absurd (cc to)
 retyped_width number_width U16 expand stage before after w next given retyped to v below = absurd (cc to)
@@ -255,9 +265,11 @@ retyped_width number_width Rat expand stage before after w next given retyped to
         let widened = retyped.widened kind refl v below in
         widened_width number_width expand stage before after w next kind given v below widened.0 widened.1
 
-pub convert_step : (number_width : NumberWidth) (bits : ℕ) (to : PixType) (expand : Bool) (stage : Stage) (before after : Form) (w next : Width)
+pub convert_step : (number_width : NumberWidth) (bits : ℕ) (to : PixType) (expand : Bool) (stage : Stage) (before after : Form)
+    (w next : Width)
     → IsGiven number_width stage (Convert to expand) before w next → IsRetyped number_width stage to before after
-    → 2 ^ bits_at (stage_after stage (Convert to expand)) ≤ 2 ^ bits → IsJointStep number_width bits stage before (Convert to expand) after next
+    → 2 ^ bits_at (stage_after stage (Convert to expand)) ≤ 2 ^ bits
+    → IsJointStep number_width bits stage before (Convert to expand) after next
 unfolding stage_after
 convert_step number_width bits to expand stage before after w next given retyped stored = record {
   few = omega (arith, retyped.count);

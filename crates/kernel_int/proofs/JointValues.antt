@@ -64,7 +64,8 @@ raised_factor old new e positive is = record {
 }
 
 -- ---- operations
-pub scaled_is : (number_width : NumberWidth) (old new : Extent) (by : ℚ) (k : ℤ) (d size : ℕ) → IsAround new d size → IsFactor old by k new → FitsSigned (width_of number_width) k
+pub scaled_is : (number_width : NumberWidth) (old new : Extent) (by : ℚ) (k : ℤ) (d size : ℕ) → IsAround new d size → IsFactor old by k new
+    → FitsSigned (width_of number_width) k
     → extent_size old * unsigned_abs k ≤ size → size < room number_width → IsScaled (width_of number_width) old by k new
 scaled_is number_width old new by k d size around over fits most small = record {
   over = over;
@@ -73,7 +74,8 @@ scaled_is number_width old new by k d size around over fits most small = record 
   inside = λ n h. around.inside (k *ℤ n) (omega (arith, product_size old k n h, most));
 }
 
-pub minimum_is : (number_width : NumberWidth) (old new : Extent) (limit : ℚ) (e size : ℕ) → IsFactor old (nat 1) (pos e) new → e < room number_width
+pub minimum_is : (number_width : NumberWidth) (old new : Extent) (limit : ℚ) (e size : ℕ) → IsFactor old (nat 1) (pos e) new
+    → e < room number_width
     → extent_size old * e ≤ size → size < room number_width → extent_size new ≤ size → ((n : ℤ) → unsigned_abs n ≤ size → new.least ≤ℤ n)
     → IsOver new limit new.greatest
     → IsMinimum (width_of number_width) old limit (pos e) new
@@ -88,7 +90,8 @@ minimum_is number_width old new limit e size over e_small most small within leas
   cut = inl is;
 }
 
-pub maximum_is : (number_width : NumberWidth) (old new : Extent) (limit : ℚ) (e size : ℕ) → IsFactor old (nat 1) (pos e) new → e < room number_width
+pub maximum_is : (number_width : NumberWidth) (old new : Extent) (limit : ℚ) (e size : ℕ) → IsFactor old (nat 1) (pos e) new
+    → e < room number_width
     → extent_size old * e ≤ size → size < room number_width → extent_size new ≤ size → ((n : ℤ) → unsigned_abs n ≤ size → n ≤ℤ new.greatest)
     → IsOver new limit new.least
     → IsMaximum (width_of number_width) old limit (pos e) new
@@ -109,8 +112,10 @@ part_size unit m places d is below = omega (arith, unsigned_abs-mul (pos unit) (
     less : (m places : ℕ) → m < places → m ≤ places
     less m places h = omega (arith, h)
 
-pub dithered_is : (number_width : NumberWidth) (old new : Extent) (count k unit d size : ℕ) → IsAround new d size → IsFactor old (nat 1) (pos k) new → k < room number_width
-    → unit * (2 * 4 ^ count) ≡ d → extent_size old * k + d ≤ size → size < room number_width → IsDithered (width_of number_width) old count (pos k) (pos unit) new
+pub dithered_is : (number_width : NumberWidth) (old new : Extent) (count k unit d size : ℕ) → IsAround new d size
+    → IsFactor old (nat 1) (pos k) new → k < room number_width
+    → unit * (2 * 4 ^ count) ≡ d → extent_size old * k + d ≤ size → size < room number_width
+    → IsDithered (width_of number_width) old count (pos k) (pos unit) new
 dithered_is number_width old new count k unit d size around over k_small is most small =
     let product = λ (n : ℤ) (h : IsIn old n). product_size old (pos k) n h in
     let part = λ (m : ℕ) (below : m < 2 * 4 ^ count). part_size unit m (2 * 4 ^ count) d is below in
@@ -156,7 +161,8 @@ over_value a r t q d e is whole =
 pub over_size : (a r : ℤ) (t d : ℕ) → r ≡ a *ℤ pos (t * d) → unsigned_abs r ≡ unsigned_abs a * t * d
 over_size a r t d is = ap unsigned_abs is ∙ unsigned_abs-mul a (pos (t * d)) ∙ omega arith
 
-pub scaled_made : (number_width : NumberWidth) (old new : Extent) (by : ℚ) (k : ℤ) → pos 0 <ℤ old.denominator → k ≡ by.numerator → FitsSigned (width_of number_width) k
+pub scaled_made : (number_width : NumberWidth) (old new : Extent) (by : ℚ) (k : ℤ) → pos 0 <ℤ old.denominator → k ≡ by.numerator
+    → FitsSigned (width_of number_width) k
     → IsAround new (unsigned_abs old.denominator * by.denominator) (extent_size old * unsigned_abs by.numerator)
     → extent_size old * unsigned_abs by.numerator < room number_width → IsScaled (width_of number_width) old by k new
 scaled_made number_width old new by k positive is fits around small =
@@ -218,7 +224,8 @@ raised_over old new e k positive some is same =
     (omega (arith, ap unsigned_abs same, product_positive (unsigned_abs old.denominator) e (abs_positive old.denominator positive) some))
     (ap unsigned_abs same)
 
-pub raised_made : (number_width : NumberWidth) (old new : Extent) (e : ℕ) (k : ℤ) → pos 0 <ℤ old.denominator → 0 < e → k ≡ pos e → e < room number_width
+pub raised_made : (number_width : NumberWidth) (old new : Extent) (e : ℕ) (k : ℤ) → pos 0 <ℤ old.denominator → 0 < e → k ≡ pos e
+    → e < room number_width
     → IsAround new (unsigned_abs old.denominator * e) (extent_size old * e) → extent_size old * e < room number_width
     → IsScaled (width_of number_width) old (nat 1) k new
 raised_made number_width old new e k positive some is e_small around small =
@@ -226,7 +233,8 @@ raised_made number_width old new e k positive some is e_small around small =
     (scaled_is number_width old new (nat 1) (pos e) _ _ around (raised_over old new e k positive some is around.denominator)
     (small_fits number_width (pos e) e (omega arith) e_small) (omega arith) small)
 
-pub minimum_made : (number_width : NumberWidth) (old new wide : Extent) (limit : ℚ) (e size : ℕ) (k cut : ℤ) → pos 0 <ℤ old.denominator → 0 < e → k ≡ pos e → e < room number_width
+pub minimum_made : (number_width : NumberWidth) (old new wide : Extent) (limit : ℚ) (e size : ℕ) (k cut : ℤ) → pos 0 <ℤ old.denominator
+    → 0 < e → k ≡ pos e → e < room number_width
     → IsAround wide (unsigned_abs old.denominator * e) size → new.denominator ≡ wide.denominator → new.least ≡ wide.least
     → new.greatest ≡ cut
     → size ≡ max (extent_size old * e) (unsigned_abs cut) → size < room number_width
@@ -242,7 +250,8 @@ minimum_made number_width old new wide limit e size k cut positive some is e_sma
     (subst (λ z. z *ℤ pos limit.denominator ≡ limit.numerator *ℤ pos (unsigned_abs new.denominator)) (sym greatest)
     (value ∙ ap (λ n. limit.numerator *ℤ pos n) (sym same))))
 
-pub maximum_made : (number_width : NumberWidth) (old new wide : Extent) (limit : ℚ) (e size : ℕ) (k cut : ℤ) → pos 0 <ℤ old.denominator → 0 < e → k ≡ pos e → e < room number_width
+pub maximum_made : (number_width : NumberWidth) (old new wide : Extent) (limit : ℚ) (e size : ℕ) (k cut : ℤ) → pos 0 <ℤ old.denominator
+    → 0 < e → k ≡ pos e → e < room number_width
     → IsAround wide (unsigned_abs old.denominator * e) size → new.denominator ≡ wide.denominator → new.greatest ≡ wide.greatest
     → new.least ≡ cut
     → size ≡ max (extent_size old * e) (unsigned_abs cut) → size < room number_width
@@ -258,8 +267,10 @@ maximum_made number_width old new wide limit e size k cut positive some is e_sma
     (subst (λ z. z *ℤ pos limit.denominator ≡ limit.numerator *ℤ pos (unsigned_abs new.denominator)) (sym least)
     (value ∙ ap (λ n. limit.numerator *ℤ pos n) (sym same))))
 
-pub dithered_made : (number_width : NumberWidth) (old new : Extent) (count places d h : ℕ) (k unit : ℤ) → pos 0 <ℤ old.denominator → 0 < d → places ≡ 2 * 4 ^ count
-    → h * unsigned_abs old.denominator ≡ d → d / places * places ≡ d → d < room number_width → extent_size old * h + d < room number_width → k ≡ pos h
+pub dithered_made : (number_width : NumberWidth) (old new : Extent) (count places d h : ℕ) (k unit : ℤ) → pos 0 <ℤ old.denominator → 0 < d
+    → places ≡ 2 * 4 ^ count
+    → h * unsigned_abs old.denominator ≡ d → d / places * places ≡ d → d < room number_width → extent_size old * h + d < room number_width
+    → k ≡ pos h
     → unit ≡ pos (d / places)
     → IsAround new d (extent_size old * h + d) → IsDithered (width_of number_width) old count k unit new
 dithered_made number_width old new count places d h k unit positive some place over whole d_small small k_is unit_is around =

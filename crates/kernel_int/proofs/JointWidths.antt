@@ -49,7 +49,8 @@ left_alone stage (Write elem planes) w kind after = refl
 left_alone stage (Convert to expand) w kind after = refl
 left_alone stage op w kind after = absurd (cc)
 
-small_from : (number_width : NumberWidth) (w : Width) → 0 < w.denominator → ((i : ℕ) → i < 4 → own_size w i < room number_width) → IsSmall number_width w
+small_from : (number_width : NumberWidth) (w : Width) → 0 < w.denominator → ((i : ℕ) → i < 4 → own_size w i < room number_width)
+    → IsSmall number_width w
 small_from number_width w positive own = record {
   positive = positive;
   denominator = omega (arith, own 0 (omega arith));
@@ -57,7 +58,8 @@ small_from number_width w positive own = record {
 }
 
 -- the part of the first operation
-own_first : (number_width : NumberWidth) (stage : Stage) (op : Op) (ops : List Op) (w : Width) (i : ℕ) → own_width_from stage (op ∷ ops) w i < room number_width
+own_first : (number_width : NumberWidth) (stage : Stage) (op : Op) (ops : List Op) (w : Width) (i : ℕ)
+    → own_width_from stage (op ∷ ops) w i < room number_width
     → ((if is_rational (stage_after stage op) then own_size (width_after stage op w) i else 0) < room number_width)
     × (own_width_from (stage_after stage op) ops (width_after stage op w) i < room number_width)
 unfolding own_width_from
@@ -69,7 +71,8 @@ small_after : (number_width : NumberWidth) (stage : Stage) (op : Op) (w : Width)
 unfolding width_after
 small_after number_width stage op w wide small own = by_stage (is_rational (stage_after stage op)) refl
   where
-    whole_or : (t : Bool) → is_rational stage ≡ t → is_rational (stage_after stage op) ≡ false → IsSmall number_width (width_after stage op w)
+    whole_or : (t : Bool) → is_rational stage ≡ t → is_rational (stage_after stage op) ≡ false
+        → IsSmall number_width (width_after stage op w)
     whole_or true kind after = rw (kind, left_alone stage op w kind after) small
     whole_or false kind after = rw kind (whole_small number_width stage wide)
 
@@ -85,7 +88,8 @@ same_capped v w same = record { denominator = same.denominator; sizes = λ i bel
 uncapped : (number_width : NumberWidth) (a b : ℕ) → b < room number_width → capped a ≡ capped b → a ≡ b
 uncapped number_width a b small h = omega (arith, small, h, room_below number_width)
 
-pub same_when_small : (number_width : NumberWidth) (w after : Width) → IsSmall number_width w → capped_width w ≡ Some after → AreSame after w
+pub same_when_small : (number_width : NumberWidth) (w after : Width) → IsSmall number_width w → capped_width w ≡ Some after
+    → AreSame after w
 same_when_small number_width w after small h =
     let c = is_capped w after h in
     record {
@@ -96,14 +100,8 @@ same_when_small number_width w after small h =
 pub none_too_wide : (number_width : NumberWidth) (w : Width) → IsSmall number_width w → capped_width w ≡ None → ⊥
 none_too_wide number_width w small h = omega (arith, small.denominator, is_too_wide w h, room_below number_width)
 
-pub small_same : (number_width : NumberWidth) (v w : Width) → AreSame v w → IsSmall number_width w → IsSmall number_width v
-small_same number_width v w same small = record {
-  positive = omega (arith, same.denominator, small.positive);
-  denominator = omega (arith, same.denominator, small.denominator);
-  sizes = λ i below. omega (arith, same.sizes i below, small.sizes i below);
-}
-
-own_same : (number_width : NumberWidth) (stage : Stage) (ops : List Op) (v w : Width) (i : ℕ) → i < 4 → are_typed stage ops ≡ true → AreSame v w
+own_same : (number_width : NumberWidth) (stage : Stage) (ops : List Op) (v w : Width) (i : ℕ) → i < 4 → are_typed stage ops ≡ true
+    → AreSame v w
     → own_width_from stage ops w i < room number_width
     → own_width_from stage ops v i < room number_width
 own_same number_width stage ops v w i below typed same fits = omega (
@@ -149,7 +147,8 @@ walked_more number_width ops k w next within walked same small =
     }
 
 -- the own width of each value, from the start
-own_fits : (number_width : NumberWidth) (ops : List Op) (i : ℕ) → own_width ops i < room number_width → own_width_from Start ops (whole_width 0) i < room number_width
+own_fits : (number_width : NumberWidth) (ops : List Op) (i : ℕ) → own_width ops i < room number_width
+    → own_width_from Start ops (whole_width 0) i < room number_width
 unfolding own_width
 own_fits number_width ops i h = (elim (has_fractions Start ops) as
     (λ t. has_fractions Start ops ≡ t → (if t then own_width_from Start ops (whole_width 0) i else 2 ^ 32) < room number_width
@@ -158,7 +157,8 @@ own_fits number_width ops i h = (elim (has_fractions Start ops) as
       | false ↦ λ t fits. omega (arith, no_fractions Start ops (whole_width 0) i t)
     ]) refl h
 
-each_own : (number_width : NumberWidth) (ops : List Op) (i : ℕ) → i < 4 → width ops < room number_width → own_width ops i < room number_width
+each_own : (number_width : NumberWidth) (ops : List Op) (i : ℕ) → i < 4 → width ops < room number_width
+    → own_width ops i < room number_width
 unfolding width
 each_own number_width ops zero below h = omega (arith, h)
 each_own number_width ops (suc zero) below h = omega (arith, h)

@@ -390,3 +390,19 @@ pub last_counts : (ops : List Op) → are_typed Start ops ≡ true → ends_with
 last_counts ops typed whole =
     let two : 2 ≤ length ops = at_least_two ops whole typed in
     write_counts (last_op ops) (last_writes ops whole) (last_good ops typed whole (omega arith))
+
+nothing_behind : (stage : Stage) (op next : Op) → is_write op ≡ true → may_follow (stage_after stage op) next ≡ true → ⊥
+unfolding may_follow stage_after
+nothing_behind stage (Write elem planes) (Read other counts palette) w h = cc
+nothing_behind stage (Write elem planes) (Write other counts) w h = cc
+nothing_behind stage (Write elem planes) next w h = cc
+nothing_behind stage op next w h = cc
+
+-- an operation with one behind it is no Write
+pub no_write : (ops : List Op) (k : ℕ) → are_typed Start ops ≡ true → k + 1 < length ops → is_write (op_at ops k) ≡ false
+no_write ops k typed within = (elim (is_write (op_at ops k)) as (λ t. is_write (op_at ops k) ≡ t → is_write (op_at ops k) ≡ false) [
+  | true ↦ λ w. absurd (nothing_behind (stage_before ops k) (op_at ops k) (op_at ops (k + 1)) w
+      (subst (λ s. may_follow s (op_at ops (k + 1)) ≡ true) (stage_more ops k (omega (arith, within)))
+      (follows_at ops (k + 1) typed within)))
+  | false ↦ λ w. w
+]) refl

@@ -1,4 +1,5 @@
 pub mod Blocks
+pub mod ByValue
 pub mod ClearSteps
 pub mod Compiled
 pub mod CompiledWalks

@@ -22,7 +22,8 @@ small_fits Bits32 z m h small = fits_signed_from_abs (width_of Bits32) z (omega 
 small_fits Bits64 z m h small = fits_signed_from_abs (width_of Bits64) z (omega (arith, h, small))
 small_fits Bits128 z m h small = fits_signed_from_abs (width_of Bits128) z (omega (arith, h, small))
 
-pub below_fits : (number_width : NumberWidth) (m limit : ℕ) → m < limit → limit ≤ room number_width → FitsSigned (width_of number_width) (pos m)
+pub below_fits : (number_width : NumberWidth) (m limit : ℕ) → m < limit → limit ≤ room number_width
+    → FitsSigned (width_of number_width) (pos m)
 below_fits number_width m limit below most = small_fits number_width (pos m) m (omega arith) (omega (arith, below, most))
 
 pub small_plain : (number_width : NumberWidth) (z : ℤ) → unsigned_abs z < room number_width → to_z w128 (of_z w128 z) ≡ z

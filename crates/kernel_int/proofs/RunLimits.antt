@@ -35,8 +35,7 @@ use Rattle.kernel_int.specs.Forms.{limit_of, limits_before, limits_in, no_range,
 use Rattle.kernel_int.specs.Forms.{AreHeld, AreReady, AreRuns, IsBounded, IsStep, IsStepBelow, makes_fractions, values_before}
 use Rattle.kernel_int.proofs.Fours.{four_at}
 use Rattle.kernel_int.specs.declared.form.Form.{Form}
-use Rattle.kernel_int.proofs.CompiledWalks.{no_write}
-use Rattle.kernel_int.proofs.Kernels.{first_follows, first_values, first_whole, kind_before}
+use Rattle.kernel_int.proofs.Kernels.{first_follows, first_values, first_whole, kind_before, no_write}
 
 -- ---- the states of a list, one by one
 pub states_size : (stage : Stage) (ops : List Op) (ranges : List _) → length (states_from stage ops ranges) ≡ length ops

@@ -1,4 +1,4 @@
--- Numerators of all four values over one denominator, within the width of a list: what a kernel works with whose own denominators do not fit.
+-- Numerators of all four values over one denominator, within the width of a list, where own denominators do not fit.
 use Rattle.std.specs.Prelude.{◌≡◌, ◌⊎◌, ℕ, ◌+◌, ◌*◌, ◌/◌, ◌^◌, ◌<◌, ◌≤◌, max, true, List, drop, Option, IfSome, ℤ, pos, ◌*ℤ◌, unsigned_abs}
 use Rattle.std.specs.Prelude.{◌<ℤ◌}
 use Rattle.op_list.specs.declared.types.Stage.{Stage}
@@ -188,7 +188,8 @@ pub record IsGiven (number_width : NumberWidth) (stage : Stage) (op : Op) (befor
   pub next_small : IsSmall number_width next
 
 -- the numbers of a form are those of the operation, and within the width after it
-pub record IsJointStep (number_width : NumberWidth) (bits : ℕ) (stage : Stage) (before : Form) (op : Op) (after : Form) (next : Width) : Type 0 where
+pub record IsJointStep (number_width : NumberWidth) (bits : ℕ) (stage : Stage) (before : Form) (op : Op) (after : Form) (next : Width)
+    : Type 0 where
   pub few : after.count ≤ 4
   pub step : IsStep bits (width_of number_width) stage before op after
   pub held : AreHeld (width_of number_width) (λ v. 2 ^ bits_at stage) stage op after

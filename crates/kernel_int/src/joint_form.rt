@@ -156,7 +156,8 @@ pub fn joint_widened_form(bits: u32, number_width: NumberWidth) -> Form
     requires bits { bits ≤ 32 }
     requires room { 2 ^ bits ≤ room number_width }
     ensures count { result.count ≡ 4 }
-    ensures widened { (v : ℕ) → v < 4 → IsWidened (width_of number_width) (2 ^ bits) (extent_at result v) }
+    ensures widened { (v : ℕ) → v < 4
+        → IsWidened (width_of number_width) (2 ^ bits) (extent_at result v) }
     ensures size { (v : ℕ) → v < 4 → extent_size (extent_at result v) ≡ 2 ^ bits - 1 }
 {
     let extent = widened_extent(bits, number_width);

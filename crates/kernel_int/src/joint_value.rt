@@ -56,7 +56,8 @@ pub fn times_of(number: i128, n: u128) -> i128
 #[tactic(auto, using(crate::proofs::Rooms::room_below))]
 pub fn joint_scaled(by: &Frac, old: &Extent, _number_width: NumberWidth) -> Made
     requires positive { pos 0 <ℤ old.now.denominator }
-    requires denominator { unsigned_abs old.now.denominator * by.now.denominator < room _number_width }
+    requires denominator { unsigned_abs old.now.denominator * by.now.denominator
+        < room _number_width }
     requires size { extent_size old.now * unsigned_abs by.now.numerator < room _number_width }
     ensures made { IsScaling (width_of _number_width) old.now by.now
         (factor result.factors 0) result.extent }
@@ -161,7 +162,8 @@ pub fn joint_dithered(places: u128, d: u128, old: &Extent, _number_width: Number
     requires over { d / unsigned_abs old.now.denominator * unsigned_abs old.now.denominator ≡ d }
     requires whole { d / places * places ≡ d }
     requires denominator { (0 < d) × (d < room _number_width) }
-    requires size { extent_size old.now * (d / unsigned_abs old.now.denominator) + d < room _number_width }
+    requires size { extent_size old.now * (d / unsigned_abs old.now.denominator) + d
+        < room _number_width }
     ensures made { (count : ℕ) → places ≡ 2 * 4 ^ count
         → IsDithered (width_of _number_width) old.now count (factor result.factors 0)
         (factor result.factors 1) result.extent }

@@ -7,9 +7,9 @@ use Rattle.op_list.specs.Typing.{stage_after}
 use Rattle.op_range.specs.Width.{width_after, whole_width}
 use Rattle.kernel_int.specs.Forms.{AreHeld, IsStep, form_at, no_form, op_at, stage_before, bits_of, width_of}
 use Rattle.kernel_int.specs.Joint.{AreSame, IsJoint, IsSmall}
-use Rattle.kernel_int.proofs.Kernels.{first_stage, follows_at, good_at, stage_more, stage_zero}
+use Rattle.kernel_int.proofs.Kernels.{first_stage, follows_at, good_at, stage_more, stage_zero, no_write}
 use Rattle.kernel_int.proofs.Compiled.{few_more, steps_more, few_none}
-use Rattle.kernel_int.proofs.CompiledWalks.{typed_before, no_write, joint_first, joint_more}
+use Rattle.kernel_int.proofs.CompiledWalks.{typed_before, joint_first, joint_more}
 use Rattle.op_list.specs.Types.{bits_at}
 use Rattle.kernel_int.proofs.RunLimits.{held_below}
 use Rattle.kernel_int.proofs.JointWidths.{start_same, walked_first, walked_more, walked_small, whole_small}
@@ -107,7 +107,8 @@ loop-k-preserved c =
     let same : c.index-ops-k.result ≡ op_at ops k = c.index-ops-k.is ∙ get_or_default ops k _ SwapBytes within in
     let before : c.index.result.now ≡ form_at forms (k - 1) = c.index.ensures
     ∙ get_or_default forms (k - 1) _ no_form (omega (arith, old.count)) in
-    let step : IsStep (bits_of c.args.storage) (width_of c.args.number_width) (stage_before ops k) (form_at forms (k - 1)) (op_at ops k) form =
+    let step : IsStep (bits_of c.args.storage) (width_of c.args.number_width) (stage_before ops k) (form_at forms (k - 1))
+    (op_at ops k) form =
     rw (← old.stage, ← before, ← same) c.joint_form-form.ensures.step in
     let held : AreHeld (width_of c.args.number_width) (λ v. 2 ^ bits_at (stage_before ops k)) (stage_before ops k) (op_at ops k) form =
     rw (← old.stage, ← same) c.joint_form-form.ensures.held in
@@ -121,8 +122,8 @@ loop-k-preserved c =
     record {
       count = ap length items ∙ length-append forms (form ∷ []) ∙ ap (λ n. n + 1) old.count;
       few = rw items (few_more forms form old.few c.joint_form-form.ensures.few);
-      steps = rw items (steps_more ops forms form (bits_of c.args.storage) (width_of c.args.number_width) k old.count (omega arith) old.steps
-          (record { step = step; held = held_below (width_of c.args.number_width) ops k form held }));
+      steps = rw items (steps_more ops forms form (bits_of c.args.storage) (width_of c.args.number_width) k old.count
+          (omega arith) old.steps (record { step = step; held = held_below (width_of c.args.number_width) ops k form held }));
       stage = stage;
       walked = walked_more c.args.number_width ops k c.loop-k.width c.in-Some.next within old.walked next c.in-Some.ensures.small;
       joint = rw items (joint_more c.stage_after-stage-in-loop-k.result forms form c.in-Some.next k old.count joint);

@@ -1,4 +1,3 @@
-use Rattle.std.proofs.Common.{arith}
 use Rattle.kernel_int.proofs.Rooms.{small_plain}
 use Rattle.kernel_int.proofs.JointRows.{factor_term, factor_size}
 use Rattle.kernel_int.proofs.joint_row.joint_factor.Goals as goal

@@ -12,7 +12,8 @@ unreachable-requires c =
 
 pub joint_moved_form-requires-clause-from : goal.joint_moved_form-requires-clause-from
 joint_moved_form-requires-clause-from c =
-    swizzle_from c.args.number_width c.in-Swizzle.from c.args.stage c.args.before.now c.args.width.now c.args.next.now (rw c.in-Swizzle.is at c.requires.given)
+    swizzle_from c.args.number_width c.in-Swizzle.from c.args.stage c.args.before.now c.args.width.now c.args.next.now
+    (rw c.in-Swizzle.is at c.requires.given)
 
 pub returns-in-SwapBytes : goal.returns-in-SwapBytes
 returns-in-SwapBytes c =
@@ -23,7 +24,8 @@ returns-in-SwapBytes c =
 pub returns-in-Unpack : goal.returns-in-Unpack
 returns-in-Unpack c =
     λ bits stored. rw c.in-Unpack.is
-    (unpack_step c.args.number_width bits c.in-Unpack.widths c.args.stage c.args.before.now c.joint_kept_form-in-Unpack.result c.args.width.now
+    (unpack_step c.args.number_width bits c.in-Unpack.widths c.args.stage c.args.before.now c.joint_kept_form-in-Unpack.result
+    c.args.width.now
     c.args.next.now (rw c.in-Unpack.is at c.requires.given) c.joint_kept_form-in-Unpack.ensures.count)
 
 pub returns-in-Pack : goal.returns-in-Pack
@@ -46,13 +48,15 @@ returns-in-Clear c =
 pub returns-in-LeftShift : goal.returns-in-LeftShift
 returns-in-LeftShift c =
     λ bits stored. rw c.in-LeftShift.is
-    (left_shift_step c.args.number_width bits c.in-LeftShift.n c.args.stage c.args.before.now c.joint_kept_form-in-LeftShift.result c.args.width.now
+    (left_shift_step c.args.number_width bits c.in-LeftShift.n c.args.stage c.args.before.now c.joint_kept_form-in-LeftShift.result
+    c.args.width.now
     c.args.next.now (rw c.in-LeftShift.is at c.requires.given) c.joint_kept_form-in-LeftShift.ensures.count)
 
 pub returns-in-RightShift : goal.returns-in-RightShift
 returns-in-RightShift c =
     λ bits stored. rw c.in-RightShift.is
-    (right_shift_step c.args.number_width bits c.in-RightShift.n c.args.stage c.args.before.now c.joint_kept_form-in-RightShift.result c.args.width.now
+    (right_shift_step c.args.number_width bits c.in-RightShift.n c.args.stage c.args.before.now c.joint_kept_form-in-RightShift.result
+    c.args.width.now
     c.args.next.now (rw c.in-RightShift.is at c.requires.given) c.joint_kept_form-in-RightShift.ensures.count)
 
 pub returns-in-Swizzle : goal.returns-in-Swizzle
@@ -62,7 +66,8 @@ returns-in-Swizzle c =
     c.args.next.now (rw c.in-Swizzle.is at c.requires.given) c.joint_moved_form.ensures.count c.joint_moved_form.ensures.moved)
 
 pub converted-requires-clause-divisors : goal.converted-requires-clause-divisors
-converted-requires-clause-divisors c = divisors_fit c.args.number_width c.in-Convert.to c.in-Convert.expand c.args.stage c.args.before.now c.args.width.now
+converted-requires-clause-divisors c =
+    divisors_fit c.args.number_width c.in-Convert.to c.in-Convert.expand c.args.stage c.args.before.now c.args.width.now
     c.args.next.now (rw c.in-Convert.is at c.requires.given)
 
 pub converted-requires-clause-room : goal.converted-requires-clause-room
@@ -72,7 +77,8 @@ converted-requires-clause-room c = λ kind to. widened_small c.args.number_width
 pub returns-in-Convert : goal.returns-in-Convert
 returns-in-Convert c =
     λ bits. rw c.in-Convert.is
-    (convert_step c.args.number_width bits c.in-Convert.to c.in-Convert.expand c.args.stage c.args.before.now c.converted.result c.args.width.now
+    (convert_step c.args.number_width bits c.in-Convert.to c.in-Convert.expand c.args.stage c.args.before.now c.converted.result
+    c.args.width.now
     c.args.next.now (rw c.in-Convert.is at c.requires.given)
     (record {
       count = c.converted.ensures.count;
@@ -88,13 +94,15 @@ joint_rows_form-requires c = rows_fit c.args.number_width c.in-Linear.rows c.arg
 pub returns-in-Linear : goal.returns-in-Linear
 returns-in-Linear c =
     λ bits stored. rw c.in-Linear.is
-    (rows_step c.args.number_width bits c.in-Linear.rows c.args.stage c.args.before.now c.joint_rows_form.result c.args.width.now c.args.next.now
+    (rows_step c.args.number_width bits c.in-Linear.rows c.args.stage c.args.before.now c.joint_rows_form.result c.args.width.now
+    c.args.next.now
     c.growth.result (rw c.in-Linear.is at c.requires.given) c.growth.ensures c.joint_rows_form.ensures.count c.joint_rows_form.ensures.rows)
 
 pub joint_made_form-requires : goal.joint_made_form-requires
 joint_made_form-requires c =
     let kind : is_by_value c.args.op.now ≡ true = search rules in
-    made_fit c.args.number_width c.args.op.now c.args.stage c.args.before.now c.args.width.now c.args.next.now c.growth-in-Dither.result kind c.requires.given
+    made_fit c.args.number_width c.args.op.now c.args.stage c.args.before.now c.args.width.now c.args.next.now c.growth-in-Dither.result
+    kind c.requires.given
     c.growth-in-Dither.ensures
 
 pub returns-in-Dither : goal.returns-in-Dither

@@ -10,5 +10,6 @@ returns-clause-made c =
     let e = c.args.e in
     let k : factor c.made.result.factors 0 ≡ pos e = search rules in
     let around : IsAround c.made.result.extent (unsigned_abs old.denominator * e) (extent_size old * e) = search rules in
-    raised_made c.args._number_width old c.made.result.extent e (factor c.made.result.factors 0) c.requires.positive c.requires.some.0 k c.requires.some.1 around
+    raised_made c.args._number_width old c.made.result.extent e
+    (factor c.made.result.factors 0) c.requires.positive c.requires.some.0 k c.requires.some.1 around
     c.requires.size

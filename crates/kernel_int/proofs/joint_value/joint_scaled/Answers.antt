@@ -1,4 +1,4 @@
-use Rattle.std.proofs.Common.{rules, ◌≡◌, ◌*◌, ◌<◌, pos, ◌∙◌, unsigned_abs}
+use Rattle.std.proofs.Common.{rules, ◌≡◌, ◌*◌, ◌∙◌, unsigned_abs}
 use Rattle.kernel_int.specs.Forms.{factor}
 use Rattle.kernel_int.specs.Joint.{IsAround, extent_size}
 use Rattle.kernel_int.proofs.JointValues.{scaling_made}

@@ -1,4 +1,4 @@
-use Rattle.std.proofs.Common.{◌≡◌, ◌<◌, sym, ◌∙◌, arith}
+use Rattle.std.proofs.Common.{sym, ◌∙◌, arith}
 use Rattle.op_range.specs.Width.{width_after}
 use Rattle.op_range.proofs.Widths.{after_positive}
 use Rattle.op_range.proofs.Reaching.{is_capped}

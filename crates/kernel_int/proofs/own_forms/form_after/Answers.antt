@@ -1,7 +1,7 @@
 use Rattle.std.proofs.Common.{rules, ◌≡◌, true}
 use Rattle.kernel_int.specs.Forms.{bits_of}
 use Rattle.kernel_int.specs.ValueSteps.{is_by_value}
-use Rattle.kernel_int.proofs.JointOps.{some_made}
+use Rattle.kernel_int.proofs.ByValue.{some_made}
 use Rattle.kernel_int.proofs.own_forms.form_after.Goals as goal
 
 pub returns-in-Dither-clause-step : goal.returns-in-Dither-clause-step
