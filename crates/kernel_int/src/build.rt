@@ -4,10 +4,12 @@ ghost use Rattle.std.specs.Prelude.{None};
 ghost use Rattle.op_list.specs.Typing.{IsOpList, ends_with_write, is_write};
 ghost use Rattle.op_range.specs.States.{states_of};
 ghost use Rattle.op_range.specs.Width.{width};
-ghost use Rattle.kernel_int.specs.Forms.{AreStored, bits_of, planes_of};
+ghost use Rattle.kernel_int.specs.Forms.{AreStored, IsKernel, bits_of, planes_of};
+ghost use Rattle.kernel_int.specs.Forms.{width_of};
+ghost use Rattle.kernel_int.specs.declared.form.NumberWidth.TheVariants.{Bits128};
 ghost use Rattle.kernel_int.specs.Joint.{room};
 
-use crate::form::{NumberWidth, Storage};
+use crate::form::{Form, NumberWidth, Storage};
 use crate::joint_forms::joint_forms;
 use crate::kernel::RowKernel;
 use crate::needed::counts_of;
@@ -31,20 +33,54 @@ fn copied(alloc: Global, ops: &[Op]) -> Result<Vec<Op>, OutOfMemory>
     Ok(copies)
 }
 
-/// The kernel of a list whose numerators have this width of numbers, where they fit.
-pub fn in_number_width(
+/// The forms of a kernel, and the width of its numerators.
+#[derive(Drop)]
+pub struct Numbers {
+    pub forms: Vec<Form>,
+    pub number_width: NumberWidth,
+}
+
+/// The kernel of a list with these numbers.
+pub fn kernel_of(
+    alloc: Global,
+    ops: &[Op],
+    storage: Storage,
+    numbers: Numbers,
+) -> Result<RowKernel, OutOfMemory>
+    requires numbers { IsKernel ops.now numbers.forms.items (bits_of storage)
+        (width_of numbers.number_width) }
+    ensures { IfOk result (λ kernel. kernel ≡ ops.now) }
+{
+    let Numbers {
+        forms,
+        number_width,
+    } = numbers;
+    let ops = copied(alloc, ops)?;
+    Ok(RowKernel {
+        ops,
+        forms,
+        storage,
+        number_width,
+    })
+}
+
+/// The numbers of a list over own denominators, where they fit this width of numbers.
+pub fn own_numbers(
     alloc: Global,
     ops: &[Op],
     ranges: &[StateRange],
     storage: Storage,
     number_width: NumberWidth,
-) -> Result<Option<RowKernel>, OutOfMemory>
+) -> Result<Option<Numbers>, OutOfMemory>
     requires sound { IsOpList ops.now }
     requires whole { ends_with_write ops.now ≡ true }
     requires some { 2 ≤ length ops.now }
     requires ranges { ranges.now ≡ states_of ops.now }
     requires stored { AreStored ops.now (bits_of storage) }
-    ensures { IfOk result (λ found. IfSome found (λ kernel. kernel ≡ ops.now)) }
+    ensures kernel { IfOk result (λ found. IfSome found (λ numbers. IsKernel ops.now
+        numbers.forms.items (bits_of storage) (width_of numbers.number_width))) }
+    ensures width { IfOk result (λ found. IfSome found
+        (λ numbers. numbers.number_width ≡ number_width)) }
 {
     let counts = counts_of(ops);
     let Some(forms) = forms_of(alloc, ops, ranges, &counts, storage, number_width)? else {
@@ -53,11 +89,8 @@ pub fn in_number_width(
     if forms[ops.len() - 2].count < written(&ops[ops.len() - 1]) {
         return Ok(None);
     }
-    let ops = copied(alloc, ops)?;
-    Ok(Some(RowKernel {
-        ops,
+    Ok(Some(Numbers {
         forms,
-        storage,
         number_width,
     }))
 }
@@ -73,63 +106,96 @@ fn written(op: &Op) -> usize
     }
 }
 
-/// The kernel of a whole list with numerators over one denominator, where all that it works out is
-/// below the room of this width of numbers.
+/// The numbers of a whole list over one denominator, where all that it works out is below the room
+/// of this width of numbers.
 #[tactic(auto, using(crate::proofs::Kernels::written_few))]
-pub fn in_joint_numbers(
+pub fn joint_numbers(
     alloc: Global,
     ops: &[Op],
     storage: Storage,
     number_width: NumberWidth,
-) -> Result<Option<RowKernel>, OutOfMemory>
+) -> Result<Option<Numbers>, OutOfMemory>
     requires sound { IsOpList ops.now }
     requires whole { ends_with_write ops.now ≡ true }
     requires some { 2 ≤ length ops.now }
     requires stored { AreStored ops.now (bits_of storage) }
     requires room { 2 ^ 32 ≤ room number_width }
-    ensures kernel { IfOk result (λ found. IfSome found (λ kernel. kernel ≡ ops.now)) }
+    ensures kernel { IfOk result (λ found. IfSome found (λ numbers. IsKernel ops.now
+        numbers.forms.items (bits_of storage) (width_of numbers.number_width))) }
+    ensures width { IfOk result (λ found. IfSome found
+        (λ numbers. numbers.number_width ≡ number_width)) }
     ensures none { IfOk result (λ found. width ops.now < room number_width → found ≡ None → ⊥) }
 {
     let Some(forms) = joint_forms(alloc, ops, storage, number_width)? else {
         return Ok(None);
     };
-    let ops = copied(alloc, ops)?;
-    Ok(Some(RowKernel {
-        ops,
+    Ok(Some(Numbers {
         forms,
-        storage,
         number_width,
     }))
 }
 
-// The kernel of a whole list with numerators of at most 64 bits: every list has one whose width is
-// below 2^62.
-fn in_few_bits(
+// The numbers of a whole list with numerators of at most 64 bits: every list has some whose width
+// is below 2^62.
+fn few_bits(
     alloc: Global,
     ops: &[Op],
     ranges: &[StateRange],
     storage: Storage,
-) -> Result<Option<RowKernel>, OutOfMemory>
+) -> Result<Option<Numbers>, OutOfMemory>
     requires sound { IsOpList ops.now }
     requires whole { ends_with_write ops.now ≡ true }
     requires some { 2 ≤ length ops.now }
     requires ranges { ranges.now ≡ states_of ops.now }
     requires stored { AreStored ops.now (bits_of storage) }
-    ensures kernel { IfOk result (λ found. IfSome found (λ kernel. kernel ≡ ops.now)) }
+    ensures kernel { IfOk result (λ found. IfSome found (λ numbers. IsKernel ops.now
+        numbers.forms.items (bits_of storage) (width_of numbers.number_width))) }
+    ensures short { IfOk result (λ found. IfSome found
+        (λ numbers. numbers.number_width ≡ Bits128 → ⊥)) }
     ensures none { IfOk result (λ found. width ops.now < 2 ^ 62 → found ≡ None → ⊥) }
 {
-    if let Some(kernel) = in_number_width(alloc, ops, ranges, storage, NumberWidth::Bits32)? {
-        return Ok(Some(kernel));
+    if let Some(numbers) = own_numbers(alloc, ops, ranges, storage, NumberWidth::Bits32)? {
+        return Ok(Some(numbers));
     }
-    if let Some(kernel) = in_number_width(alloc, ops, ranges, storage, NumberWidth::Bits64)? {
-        return Ok(Some(kernel));
+    if let Some(numbers) = own_numbers(alloc, ops, ranges, storage, NumberWidth::Bits64)? {
+        return Ok(Some(numbers));
     }
-    in_joint_numbers(alloc, ops, storage, NumberWidth::Bits64)
+    joint_numbers(alloc, ops, storage, NumberWidth::Bits64)
 }
 
-/// The kernel of a whole list that fits, in the narrowest numerators that hold all that it works
-/// out: at most 64 bits where the width is below 2^62. The ranges are those of the list. OutOfMemory
-/// comes where an allocation is refused.
+/// The numbers of a whole list that fits, in the narrowest numerators that hold all that it works
+/// out: at most 64 bits where the width is below 2^62.
+pub fn numbers_of(
+    alloc: Global,
+    ops: &[Op],
+    ranges: &[StateRange],
+    storage: Storage,
+) -> Result<Numbers, OutOfMemory>
+    requires sound { IsOpList ops.now }
+    requires whole { ends_with_write ops.now ≡ true }
+    requires some { 2 ≤ length ops.now }
+    requires ranges { ranges.now ≡ states_of ops.now }
+    requires stored { AreStored ops.now (bits_of storage) }
+    requires fits { width ops.now < 2 ^ 126 }
+    ensures kernel { IfOk result (λ numbers. IsKernel ops.now
+        numbers.forms.items (bits_of storage) (width_of numbers.number_width)) }
+    ensures short { IfOk result (λ numbers. width ops.now < 2 ^ 62
+        → numbers.number_width ≡ Bits128 → ⊥) }
+{
+    if let Some(numbers) = few_bits(alloc, ops, ranges, storage)? {
+        return Ok(numbers);
+    }
+    if let Some(numbers) = own_numbers(alloc, ops, ranges, storage, NumberWidth::Bits128)? {
+        return Ok(numbers);
+    }
+    match joint_numbers(alloc, ops, storage, NumberWidth::Bits128)? {
+        Some(numbers) => Ok(numbers),
+        None => unreachable!(),
+    }
+}
+
+/// The kernel of a whole list that fits, with the numbers of `numbers_of`. The ranges are those of
+/// the list. OutOfMemory comes where an allocation is refused.
 #[tactic(auto, using(crate::proofs::Kernels::at_least_two))]
 pub fn compile(
     alloc: Global,
@@ -143,14 +209,6 @@ pub fn compile(
 {
     let ops = list.ops();
     let storage = storage_of(ops);
-    if let Some(kernel) = in_few_bits(alloc, ops, ranges, storage)? {
-        return Ok(kernel);
-    }
-    if let Some(kernel) = in_number_width(alloc, ops, ranges, storage, NumberWidth::Bits128)? {
-        return Ok(kernel);
-    }
-    match in_joint_numbers(alloc, ops, storage, NumberWidth::Bits128)? {
-        Some(kernel) => Ok(kernel),
-        None => unreachable!(),
-    }
+    let numbers = numbers_of(alloc, ops, ranges, storage)?;
+    kernel_of(alloc, ops, storage, numbers)
 }

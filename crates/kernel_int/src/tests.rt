@@ -7,7 +7,7 @@ ghost use Rattle.op_list.specs.Pixel.{frame_length};
 ghost use Rattle.op_list.specs.Run.{read_length};
 ghost use Rattle.kernel_int.specs.Forms.{last_op};
 
-use crate::build::{in_joint_numbers, in_number_width};
+use crate::build::{joint_numbers, kernel_of, own_numbers};
 use crate::form::NumberWidth;
 use crate::storage_of::storage_of;
 use crate::{RowKernel, compile};
@@ -149,10 +149,16 @@ fn agrees_as_list(alloc: Global, list: &OpList, copy: &OpList, width: u32, rows:
         return false;
     };
     let storage = storage_of(ops);
-    let Ok(Some(joint)) = in_joint_numbers(alloc, ops, storage, NumberWidth::Bits128) else {
+    let Ok(Some(wide)) = joint_numbers(alloc, ops, storage, NumberWidth::Bits128) else {
         return false;
     };
-    if let Ok(Some(short)) = in_joint_numbers(alloc, ops, storage, NumberWidth::Bits64) {
+    let Ok(joint) = kernel_of(alloc, ops, storage, wide) else {
+        return false;
+    };
+    if let Ok(Some(few)) = joint_numbers(alloc, ops, storage, NumberWidth::Bits64) {
+        let Ok(short) = kernel_of(alloc, ops, storage, few) else {
+            return false;
+        };
         if !gives_meant(&short, list, &input, copy, &mut output, width, rows) {
             return false;
         }
@@ -174,10 +180,10 @@ fn needs_joint_numbers(alloc: Global, ops: &[Op]) -> bool {
     };
     let ops = list.ops();
     let storage = storage_of(ops);
-    let Ok(own) = in_number_width(alloc, ops, &states, storage, NumberWidth::Bits64) else {
+    let Ok(own) = own_numbers(alloc, ops, &states, storage, NumberWidth::Bits64) else {
         return false;
     };
-    let Ok(joint) = in_joint_numbers(alloc, ops, storage, NumberWidth::Bits64) else {
+    let Ok(joint) = joint_numbers(alloc, ops, storage, NumberWidth::Bits64) else {
         return false;
     };
     own.is_none() && joint.is_some()
