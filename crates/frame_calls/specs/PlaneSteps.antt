@@ -1,6 +1,6 @@
 -- A row of planes, as one step of a conversion.
 use Rattle.std.specs.Prelude.{◌≡◌, ◌≤◌, ℕ, ◌+◌, ◌*◌, List, length, take, drop, slice_index}
-use Rattle.kernel_int.specs.Planes.{row_at}
+use Rattle.kernel_planes.specs.Planes.{row_at}
 
 -- Row r of each plane lies in its bytes.
 pub record HoldRow (planes : List (List ℕ)) (strides sizes : List ℕ) (r : ℕ) : Type 0 where

@@ -6,8 +6,8 @@ use Rattle.pix_desc.specs.declared.desc.Desc.{Desc}
 use Rattle.pix_desc.specs.Frame.{row_length}
 use Rattle.pix_meaning.specs.declared.pair.Pair.{Pair}
 use Rattle.pix_meaning.specs.Target.{target_rows}
-use Rattle.kernel_int.specs.declared.planes.Planes.{Planes}
-use Rattle.kernel_int.specs.Planes.{row_at, row_frame, row_list, rows_of}
+use Rattle.kernel_planes.specs.declared.planes.Planes.{Planes}
+use Rattle.kernel_planes.specs.Planes.{row_at, row_frame, row_list, rows_of}
 use Rattle.row_plan.specs.Planes.{palette_bytes}
 use Rattle.frame_calls.specs.declared.refusal.Refusal.{Refusal}
 use Rattle.frame_calls.specs.declared.refusal.Refusal.TheVariants as refusal

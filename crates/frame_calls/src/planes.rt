@@ -5,7 +5,7 @@ ghost use Rattle.std.specs.Prelude.{nat_le, OnOk, OnErr};
 ghost use Rattle.pix_desc.specs.Frame.{row_length};
 ghost use Rattle.pix_desc.specs.Layouts.{IsValid};
 ghost use Rattle.pix_meaning.specs.Target.{target_rows};
-ghost use Rattle.kernel_int.specs.Planes.{row_frame, row_list, rows_of};
+ghost use Rattle.kernel_planes.specs.Planes.{row_frame, row_list, rows_of};
 ghost use Rattle.row_plan.specs.Planes.{AreRowsOf, palette_bytes};
 ghost use Rattle.frame_calls.specs.Planes.{row_sizes, plane_row, rows_at};
 ghost use Rattle.frame_calls.specs.Planes.{hold_rows, planes_asked, AreRowsConverted};

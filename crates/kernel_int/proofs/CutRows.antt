@@ -19,13 +19,13 @@ use Rattle.op_list.specs.declared.values.Values.TheVariants.{Numbers}
 use Rattle.op_list.specs.Values.{no_values, four}
 use Rattle.op_list.specs.Apply.{apply}
 use Rattle.op_list.proofs.Elements.{sum-cons}
-use Rattle.kernel_int.specs.Block.{position_at, colour_byte}
-use Rattle.kernel_int.specs.Forms.{planes_of, elem_of}
-use Rattle.kernel_int.specs.Planes.{AreRows, has_planes, palette_length, row_at, row_element, row_frame, row_length, row_list}
-use Rattle.kernel_int.proofs.Kernels.{read_good, write_good}
-use Rattle.kernel_int.proofs.PlaneRows.{same_by_plane}
-use Rattle.kernel_int.proofs.Palettes.{colour_at, indices_alone, palette_planes}
-use Rattle.kernel_int.proofs.RowFrames.{all_sizes, element_part, frame_of_parts, no_fifth, row_of_frame}
+use Rattle.kernel_planes.specs.Block.{position_at, colour_byte}
+use Rattle.kernel_planes.specs.Planes.{planes_of, elem_of}
+use Rattle.kernel_planes.specs.Planes.{AreRows, has_planes, palette_length, row_at, row_element, row_frame, row_length, row_list}
+use Rattle.kernel_step.proofs.Kernels.{read_good, write_good}
+use Rattle.kernel_planes.proofs.PlaneRows.{same_by_plane}
+use Rattle.kernel_planes.proofs.Palettes.{colour_at, indices_alone, palette_planes}
+use Rattle.kernel_planes.proofs.RowFrames.{all_sizes, element_part, frame_of_parts, no_fifth, row_of_frame}
 
 -- ---- the lengths
 no_sum : (ns : List ℕ) → ((p : ℕ) → slice_index ns p ≡ 0) → sum ns ≡ 0

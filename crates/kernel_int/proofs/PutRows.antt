@@ -11,12 +11,12 @@ use Rattle.op_list.specs.declared.position.PixelPosition.{PixelPosition}
 use Rattle.op_list.specs.Types.{bytes}
 use Rattle.op_list.specs.Typing.{are_counts}
 use Rattle.op_list.specs.Pixel.{element, element_of}
-use Rattle.kernel_int.specs.Block.{IsOtherRow, position_at}
-use Rattle.kernel_int.specs.Forms.{planes_of, elem_of}
-use Rattle.kernel_int.specs.Planes.{AreRows, row_at, row_frame, row_length, row_list}
+use Rattle.kernel_planes.specs.Block.{IsOtherRow, position_at}
+use Rattle.kernel_planes.specs.Planes.{planes_of, elem_of}
+use Rattle.kernel_planes.specs.Planes.{AreRows, row_at, row_frame, row_length, row_list}
 use Rattle.kernel_int.proofs.CutRows.{four_sizes}
-use Rattle.kernel_int.proofs.PlaneRows.{same_four}
-use Rattle.kernel_int.proofs.RowFrames.{all_sizes, element_behind, element_front, frame_of_parts, no_fifth, row_of_frame}
+use Rattle.kernel_planes.proofs.PlaneRows.{same_four}
+use Rattle.kernel_planes.proofs.RowFrames.{all_sizes, element_behind, element_front, frame_of_parts, no_fifth, row_of_frame}
 
 -- a part with a row of this size in the place of an old one
 abbrev pub put : ℕ → ℕ → List ℕ → List ℕ → List ℕ

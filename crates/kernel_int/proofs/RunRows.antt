@@ -13,8 +13,8 @@ use Rattle.op_list.specs.Typing.{are_good, are_typed, may_follow, stage_after}
 use Rattle.op_list.specs.Values.{four, number, no_values}
 use Rattle.op_list.specs.Apply.{apply}
 use Rattle.op_list.specs.Run.{run, run_from}
-use Rattle.kernel_int.specs.Block.{position_at}
-use Rattle.kernel_int.specs.Forms.{op_at}
+use Rattle.kernel_planes.specs.Block.{position_at}
+use Rattle.kernel_step.specs.Forms.{op_at}
 
 -- ---- behind the Read, a frame and its rows do not count
 after_start : (stage : Stage) (op : Op) → is_start stage ≡ false → is_start (stage_after stage op) ≡ false

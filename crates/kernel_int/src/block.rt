@@ -8,23 +8,17 @@ ghost use Rattle.op_list.specs.Apply.{apply};
 ghost use Rattle.op_list.specs.declared.types.Stage.TheVariants.{Start};
 ghost use Rattle.op_list.specs.Values.{number, no_values};
 ghost use Rattle.op_list.specs.Run.{run_from};
-ghost use Rattle.kernel_int.specs.Block.{pixel_at, Holds, AreBelow, IsInRow};
-ghost use Rattle.kernel_int.specs.Forms.{AreRuns, IsKernel, IsState, IsBounded, form_at};
-ghost use Rattle.kernel_int.specs.Forms.{stage_before};
-ghost use Rattle.kernel_int.specs.Forms.{op_at, values_before, last_op, planes_of, elem_of};
-ghost use Rattle.kernel_int.specs.Planes.{AreRows, palette_length, row_element, row_frame};
-ghost use Rattle.kernel_int.specs.Planes.{row_list};
-ghost use Rattle.kernel_int.specs.Planes.{rows_of};
+ghost use Rattle.kernel_planes.specs.Block.{pixel_at, Holds, AreBelow, IsInRow};
+ghost use Rattle.kernel_step.specs.Forms.{AreRuns, IsKernel, IsState, IsBounded, form_at};
+ghost use Rattle.kernel_step.specs.Forms.{stage_before};
+ghost use Rattle.kernel_step.specs.Forms.{op_at, values_before, last_op};
+ghost use Rattle.kernel_planes.specs.Planes.{planes_of, elem_of};
+ghost use Rattle.kernel_planes.specs.Planes.{AreRows, palette_length, row_element, row_frame};
+ghost use Rattle.kernel_planes.specs.Planes.{row_list};
+ghost use Rattle.kernel_planes.specs.Planes.{rows_of};
 
-use crate::form::Form;
-use crate::numerator::Numerator;
-use crate::palette::read_palette;
-use crate::planes::Planes;
-use crate::read::read_block;
-use crate::rest::clear_rest;
-use crate::step::step;
-use crate::whole_number::WholeNumber;
-use crate::write::write_block;
+use kernel_planes::{Planes, WholeNumber, clear_rest, read_block, read_palette, write_block};
+use kernel_step::{Form, Numerator, step};
 use op_list::{Op, PixType, PixelPosition, Stage};
 
 // The elements of n pixels from a position on, or their colours, and 0 for the others.

@@ -4,18 +4,16 @@ ghost use Rattle.std.specs.Prelude.{None};
 ghost use Rattle.op_list.specs.Typing.{IsOpList, ends_with_write, is_write};
 ghost use Rattle.op_range.specs.States.{states_of};
 ghost use Rattle.op_range.specs.Width.{width};
-ghost use Rattle.kernel_int.specs.Forms.{AreStored, IsKernel, bits_of, planes_of};
-ghost use Rattle.kernel_int.specs.Forms.{width_of};
-ghost use Rattle.kernel_int.specs.declared.form.NumberWidth.TheVariants.{Bits128};
-ghost use Rattle.kernel_int.specs.Joint.{room};
+ghost use Rattle.kernel_step.specs.Forms.{AreStored, IsKernel, bits_of};
+ghost use Rattle.kernel_planes.specs.Planes.{planes_of};
+ghost use Rattle.kernel_step.specs.Forms.{width_of};
+ghost use Rattle.kernel_step.specs.declared.form.NumberWidth.TheVariants.{Bits128};
+ghost use Rattle.kernel_joint.specs.Joint.{room};
 
-use crate::form::{Form, NumberWidth, Storage};
-use crate::joint_forms::joint_forms;
 use crate::kernel::RowKernel;
-use crate::needed::counts_of;
-use crate::own_forms::forms_of;
-use crate::storage_of::storage_of;
 use frac_math::{Frac, OutOfMemory};
+use kernel_joint::joint_forms;
+use kernel_step::{Form, NumberWidth, Storage, counts_of, forms_of, storage_of};
 use op_list::{Op, OpList, total};
 use op_range::StateRange;
 use std::alloc::Global;
@@ -108,7 +106,7 @@ fn written(op: &Op) -> usize
 
 /// The numbers of a whole list over one denominator, where all that it works out is below the room
 /// of this width of numbers.
-#[tactic(auto, using(crate::proofs::Kernels::written_few))]
+#[tactic(auto, using(kernel_step::proofs::Kernels::written_few))]
 pub fn joint_numbers(
     alloc: Global,
     ops: &[Op],
@@ -196,7 +194,7 @@ pub fn numbers_of(
 
 /// The kernel of a whole list that fits, with the numbers of `numbers_of`. The ranges are those of
 /// the list. OutOfMemory comes where an allocation is refused.
-#[tactic(auto, using(crate::proofs::Kernels::at_least_two))]
+#[tactic(auto, using(kernel_step::proofs::Kernels::at_least_two))]
 pub fn compile(
     alloc: Global,
     list: &OpList,

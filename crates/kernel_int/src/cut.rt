@@ -6,12 +6,12 @@ ghost use Rattle.op_list.specs.Apply.{apply};
 ghost use Rattle.op_list.specs.Pixel.{frame_length};
 ghost use Rattle.op_list.specs.Values.{no_values};
 ghost use Rattle.op_list.specs.declared.types.Stage.TheVariants.{Start};
-ghost use Rattle.kernel_int.specs.Block.{position_at};
-ghost use Rattle.kernel_int.specs.Forms.{elem_of, planes_of};
-ghost use Rattle.kernel_int.specs.Planes.{AreRows, has_planes, palette_length, row_frame};
-ghost use Rattle.kernel_int.specs.Planes.{row_length, rows_of};
+ghost use Rattle.kernel_planes.specs.Block.{position_at};
+ghost use Rattle.kernel_planes.specs.Planes.{elem_of, planes_of};
+ghost use Rattle.kernel_planes.specs.Planes.{AreRows, has_planes, palette_length, row_frame};
+ghost use Rattle.kernel_planes.specs.Planes.{row_length, rows_of};
 
-use crate::planes::Planes;
+use kernel_planes::Planes;
 use op_list::{Op, PixType};
 
 // The bytes of an element.

@@ -5,17 +5,17 @@ ghost use Rattle.op_list.specs.declared.types.Stage.TheVariants.{Start};
 ghost use Rattle.op_list.specs.declared.position.PixelPosition.{PixelPosition};
 ghost use Rattle.op_list.specs.Pixel.{element_of, frame_length};
 ghost use Rattle.op_list.specs.Run.{run, read_length};
-ghost use Rattle.kernel_int.specs.Block.{IsOtherRow, position_at};
-ghost use Rattle.kernel_int.specs.Forms.{IsKernel, last_op, op_at, planes_of, elem_of, bits_of};
-ghost use Rattle.kernel_int.specs.Forms.{width_of};
-ghost use Rattle.kernel_int.specs.Planes.{AreRows, has_planes, palette_length, row_frame};
-ghost use Rattle.kernel_int.specs.Planes.{row_length, row_list, rows_of};
+ghost use Rattle.kernel_planes.specs.Block.{IsOtherRow, position_at};
+ghost use Rattle.kernel_step.specs.Forms.{IsKernel, last_op, op_at, bits_of};
+ghost use Rattle.kernel_planes.specs.Planes.{planes_of, elem_of};
+ghost use Rattle.kernel_step.specs.Forms.{width_of};
+ghost use Rattle.kernel_planes.specs.Planes.{AreRows, has_planes, palette_length, row_frame};
+ghost use Rattle.kernel_planes.specs.Planes.{row_length, row_list, rows_of};
 
 use crate::cut::{cut, row_lengths};
-use crate::form::{Form, NumberWidth, Storage};
-use crate::planes::Planes;
 use crate::row::run_blocks;
-use crate::whole_number::WholeNumber;
+use kernel_planes::{Planes, WholeNumber};
+use kernel_step::{Form, NumberWidth, Storage};
 use op_list::Op;
 use std::marker::Model;
 
@@ -34,7 +34,7 @@ impl Model for RowKernel {
 
     ghost Value = { List Op };
 
-    ghost use Rattle.kernel_int.specs.Forms.{IsKernel, bits_of, width_of};
+    ghost use Rattle.kernel_step.specs.Forms.{IsKernel, bits_of, width_of};
 
     ghost view = { λ k. k.ops.items };
 

@@ -2,16 +2,15 @@
 ghost use Rattle.std.specs.Prelude.{◌≡◌, ℕ, ◌*◌, ◌<◌, ◌≤◌, length, sum, slice_index, []};
 ghost use Rattle.op_list.specs.Pixel.{element_of};
 ghost use Rattle.op_list.specs.Run.{run};
-ghost use Rattle.kernel_int.specs.Block.{position_at};
-ghost use Rattle.kernel_int.specs.Forms.{IsKernel, last_op, op_at, planes_of, elem_of};
-ghost use Rattle.kernel_int.specs.Planes.{AreRows, palette_length, row_frame, row_list};
-ghost use Rattle.kernel_int.specs.Planes.{rows_of};
+ghost use Rattle.kernel_planes.specs.Block.{position_at};
+ghost use Rattle.kernel_step.specs.Forms.{IsKernel, last_op, op_at};
+ghost use Rattle.kernel_planes.specs.Planes.{planes_of, elem_of};
+ghost use Rattle.kernel_planes.specs.Planes.{AreRows, palette_length, row_frame, row_list};
+ghost use Rattle.kernel_planes.specs.Planes.{rows_of};
 
 use crate::block::run_block;
-use crate::form::Form;
-use crate::numerator::Numerator;
-use crate::planes::Planes;
-use crate::whole_number::WholeNumber;
+use kernel_planes::{Planes, WholeNumber};
+use kernel_step::{Form, Numerator};
 use op_list::{Op, PixelPosition};
 
 // Runs the operations on a row, block by block.

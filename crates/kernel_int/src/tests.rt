@@ -5,13 +5,12 @@ ghost use Rattle.op_list.specs.Types.{bytes};
 ghost use Rattle.op_list.specs.Typing.{ends_with_write};
 ghost use Rattle.op_list.specs.Pixel.{frame_length};
 ghost use Rattle.op_list.specs.Run.{read_length};
-ghost use Rattle.kernel_int.specs.Forms.{last_op};
+ghost use Rattle.kernel_step.specs.Forms.{last_op};
 
 use crate::build::{joint_numbers, kernel_of, own_numbers};
-use crate::form::NumberWidth;
-use crate::storage_of::storage_of;
 use crate::{RowKernel, compile};
 use frac_math::{Frac, OutOfMemory};
+use kernel_step::{NumberWidth, storage_of};
 use op_list::{Op, OpList, PixType, PushFault, total};
 use op_range::{fits, ranges};
 use std::alloc::Global;

@@ -26,8 +26,9 @@ use Rattle.op_build.proofs.recipe.Typed.{recipe_is_list}
 use Rattle.op_opt.specs.Laws.{IsNormalOf}
 use Rattle.op_opt.specs.Normal.{normal}
 use Rattle.op_opt.proofs.Normals.{normal_reached}
-use Rattle.kernel_int.specs.Block.{IsOtherRow, position_at}
-use Rattle.kernel_int.specs.Forms.{last_op, planes_of, elem_of}
+use Rattle.kernel_planes.specs.Block.{IsOtherRow, position_at}
+use Rattle.kernel_step.specs.Forms.{last_op}
+use Rattle.kernel_planes.specs.Planes.{planes_of, elem_of}
 use Rattle.row_plan.proofs.RowSteps.{row_more}
 
 -- a slice of bytes

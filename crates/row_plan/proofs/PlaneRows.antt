@@ -29,10 +29,11 @@ use Rattle.op_build.proofs.shape.ElementStarts.{whole_steps}
 use Rattle.op_build.proofs.shape.ElementTypes.{has_type}
 use Rattle.op_build.proofs.shape.SlotBits.{has_slot_bits}
 use Rattle.op_opt.specs.Normal.{normal}
-use Rattle.kernel_int.specs.Block.{position_at}
-use Rattle.kernel_int.specs.Forms.{op_at, last_op, planes_of, elem_of}
-use Rattle.kernel_int.specs.Planes.{AreRows, palette_length, row_frame, row_list}
-use Rattle.kernel_int.specs.Planes.{row_length as op_row}
+use Rattle.kernel_planes.specs.Block.{position_at}
+use Rattle.kernel_step.specs.Forms.{op_at, last_op}
+use Rattle.kernel_planes.specs.Planes.{planes_of, elem_of}
+use Rattle.kernel_planes.specs.Planes.{AreRows, palette_length, row_frame, row_list}
+use Rattle.kernel_planes.specs.Planes.{row_length as op_row}
 use Rattle.row_plan.specs.Planes.{AreRowsOf, palette_bytes}
 use Rattle.row_plan.proofs.ConvertedRows.{all_converted, is_normal, normal_writes, row_converted}
 

@@ -9,7 +9,7 @@ use Rattle.op_list.specs.Pixel.{element_of}
 use Rattle.op_list.specs.Store.{HaveSameElements}
 use Rattle.op_list.proofs.Stored.{element_of-past}
 use Rattle.op_list.proofs.Four.{get_or-four}
-use Rattle.kernel_int.specs.Block.{IsOtherRow, position_at}
+use Rattle.kernel_planes.specs.Block.{IsOtherRow, position_at}
 
 -- the numbers that a row was given are the elements of the wanted frame
 pub record IsRowOf (elem : PixType) (planes : List ℕ) (width rows row y : ℕ) (numbers : ℕ → List ℕ) (old new wanted : List ℕ) : Type 0 where

@@ -2,7 +2,7 @@
 use Rattle.std.specs.Prelude.{◌≡◌, ◌<◌, ℕ, if◌then◌else◌, List, length}
 use Rattle.pix_desc.specs.declared.desc.Desc.{Desc}
 use Rattle.pix_desc.specs.Frame.{row_length}
-use Rattle.kernel_int.specs.Planes.{row_at}
+use Rattle.kernel_planes.specs.Planes.{row_at}
 
 -- each row has the bytes of its plane, and none where the format has no such plane
 abbrev pub AreRowsOf : Desc → ℕ → List (List ℕ) → Type 0

@@ -21,6 +21,6 @@ mod slice;
 mod tests;
 
 pub use job::SliceJob;
-pub use kernel_int::Planes;
+pub use kernel_planes::Planes;
 pub use making::plan;
 pub use plans::Plan;

@@ -1,11 +1,11 @@
 // The conversion of a row that stands in the rows of its planes.
 ghost use Rattle.std.specs.Prelude.{◌≡◌, ◌<◌, [], length, All};
 ghost use Rattle.pix_meaning.specs.Target.{target_rows};
-ghost use Rattle.kernel_int.specs.Planes.{row_frame, row_list, rows_of};
+ghost use Rattle.kernel_planes.specs.Planes.{row_frame, row_list, rows_of};
 ghost use Rattle.row_plan.specs.Planes.{AreRowsOf, palette_bytes};
 
 use crate::plans::Plan;
-use kernel_int::Planes;
+use kernel_planes::Planes;
 
 // The numbers of a slice are bytes: its type says so of a parameter, and not of a field.
 fn are_bytes(bytes: &[u8])

@@ -1,6 +1,6 @@
 // The conversion of rows that stand in planes.
 ghost use Rattle.std.specs.Prelude.{◌≡◌, ◌≢◌, [], ◌∷◌, IfSome, IsSome};
-ghost use Rattle.kernel_int.specs.Planes.{row_list};
+ghost use Rattle.kernel_planes.specs.Planes.{row_list};
 ghost use Rattle.frame_calls.specs.Planes.{planes_asked, AreRowsConverted};
 ghost use Rattle.sws_c.specs.Kept.{plan_kept};
 ghost use Rattle.sws_c.specs.Status.{status_of};

@@ -1,5 +1,5 @@
 use Rattle.std.proofs.Common.{refl, ap, arith, subst, ◌∙◌}
-use Rattle.kernel_int.specs.Planes.{row_list, rows_of}
+use Rattle.kernel_planes.specs.Planes.{row_list, rows_of}
 use Rattle.row_plan.specs.Planes.{palette_bytes}
 use Rattle.frame_calls.specs.Planes.{AreRowsConverted}
 use Rattle.frame_calls.proofs.PlaneRows.{none_yet, one_step, row_held, rows_have_sizes}

@@ -1,4 +1,4 @@
-use Rattle.kernel_int.specs.Planes.{row_list}
+use Rattle.kernel_planes.specs.Planes.{row_list}
 use Rattle.frame_calls.specs.Planes.{AreRowsConverted}
 use Rattle.frame_calls.proofs.planes.convert_held.Given as goal
 

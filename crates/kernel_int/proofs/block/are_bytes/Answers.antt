@@ -1,4 +1,4 @@
-use Rattle.kernel_int.proofs.RunLimits.{bytes_of}
+use Rattle.kernel_step.proofs.RunLimits.{bytes_of}
 use Rattle.kernel_int.proofs.block.are_bytes.Goals as goal
 
 pub returns : goal.returns

@@ -2,12 +2,12 @@ use Rattle.std.proofs.Common.{◌≡◌, ◌+◌, ◌*◌, ◌^◌, ◌≤◌, s
 use Rattle.op_list.specs.Types.{bytes}
 use Rattle.op_list.specs.Values.{no_values}
 use Rattle.op_list.specs.Pixel.{palette_colours, pixel_count, pixel_number}
-use Rattle.kernel_int.specs.Block.{pixel_at, colour_byte, colour_in}
-use Rattle.kernel_int.specs.Planes.{row_frame, rows_of}
-use Rattle.kernel_int.proofs.Kernels.{read_good, read_value, counts_few}
-use Rattle.kernel_int.proofs.Palettes.{palette_bits, palette_value, indices_alone, colour_at}
-use Rattle.kernel_int.proofs.PlaneRows.{row_room}
-use Rattle.kernel_int.proofs.RowFrames.{all_sizes, row_of_frame}
+use Rattle.kernel_planes.specs.Block.{pixel_at, colour_byte, colour_in}
+use Rattle.kernel_planes.specs.Planes.{row_frame, rows_of}
+use Rattle.kernel_step.proofs.Kernels.{read_good, read_value, counts_few}
+use Rattle.kernel_planes.proofs.Palettes.{palette_bits, palette_value, indices_alone, colour_at}
+use Rattle.kernel_planes.proofs.PlaneRows.{row_room}
+use Rattle.kernel_planes.proofs.RowFrames.{all_sizes, row_of_frame}
 use Rattle.kernel_int.proofs.block.read_values.Goals as goal
 
 pub read_palette-requires-clause-bits : goal.read_palette-requires-clause-bits

@@ -4,12 +4,13 @@ use Rattle.op_list.specs.declared.op.Op.TheVariants.{SwapBytes}
 use Rattle.op_list.specs.declared.types.Stage.TheVariants.{Start}
 use Rattle.op_list.specs.Types.{bits, bits_at}
 use Rattle.op_list.specs.Typing.{stage_after}
-use Rattle.kernel_int.specs.Forms.{form_at, stage_before, op_at, last_op, elem_of}
-use Rattle.kernel_int.specs.Planes.{row_frame, rows_of}
-use Rattle.kernel_int.proofs.Kernels.{at_least_two, first_follows, first_good, first_stage, first_state, first_bounded}
-use Rattle.kernel_int.proofs.Kernels.{written_run, last_good, last_whole, last_bits, last_writes, some_element}
+use Rattle.kernel_step.specs.Forms.{form_at, stage_before, op_at, last_op}
+use Rattle.kernel_planes.specs.Planes.{elem_of}
+use Rattle.kernel_planes.specs.Planes.{row_frame, rows_of}
+use Rattle.kernel_step.proofs.Kernels.{at_least_two, first_follows, first_good, first_stage, first_state, first_bounded}
+use Rattle.kernel_step.proofs.Kernels.{written_run, last_good, last_whole, last_bits, last_writes, some_element}
 use Rattle.std.proofs.lemmas.Nat.{pow_pos}
-use Rattle.kernel_int.proofs.RunLimits.{first_lanes, rest_below}
+use Rattle.kernel_step.proofs.RunLimits.{first_lanes, rest_below}
 use Rattle.kernel_int.proofs.block.run_block.Goals as goal
 
 pub bounds-ops-0 : goal.bounds-ops-0

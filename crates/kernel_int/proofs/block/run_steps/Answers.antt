@@ -3,10 +3,10 @@ use Rattle.std.proofs.lemmas.List.{get_or_default}
 use Rattle.op_list.specs.declared.op.Op.TheVariants.{SwapBytes}
 use Rattle.op_list.specs.Typing.{stage_after}
 use Rattle.op_list.specs.Apply.{apply}
-use Rattle.kernel_int.specs.Block.{pixel_at}
-use Rattle.kernel_int.specs.Forms.{form_at, stage_before, values_before, op_at, IsState, IsBounded}
-use Rattle.kernel_int.proofs.Kernels.{follows_at, good_at, stage_more, state_more, bounded_more}
-use Rattle.kernel_int.proofs.RunLimits.{apply_alike, runs_ready}
+use Rattle.kernel_planes.specs.Block.{pixel_at}
+use Rattle.kernel_step.specs.Forms.{form_at, stage_before, values_before, op_at, IsState, IsBounded}
+use Rattle.kernel_step.proofs.Kernels.{follows_at, good_at, stage_more, state_more, bounded_more}
+use Rattle.kernel_step.proofs.RunLimits.{apply_alike, runs_ready}
 use Rattle.kernel_int.proofs.block.run_steps.Goals as goal
 
 pub step-requires-clause-follows : goal.step-requires-clause-follows

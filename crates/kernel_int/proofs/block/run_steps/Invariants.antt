@@ -1,5 +1,5 @@
 use Rattle.std.proofs.Common.{◌≡◌, ℕ, ◌-◌, ◌≤◌, List}
-use Rattle.kernel_int.specs.Forms.{AreRuns, IsState, IsBounded, form_at, stage_before, values_before}
+use Rattle.kernel_step.specs.Forms.{AreRuns, IsState, IsBounded, form_at, stage_before, values_before}
 use Rattle.kernel_int.proofs.block.run_steps.Given as goal
 
 abbrev pub invariant-loop-k : goal.invariant-loop-k

@@ -1,7 +1,7 @@
 use Rattle.std.proofs.Common.{slice_index}
 use Rattle.op_list.specs.Types.{bytes}
-use Rattle.kernel_int.proofs.Kernels.{counts_few, write_good}
-use Rattle.kernel_int.proofs.PlaneRows.{row_room}
+use Rattle.kernel_step.proofs.Kernels.{counts_few, write_good}
+use Rattle.kernel_planes.proofs.PlaneRows.{row_room}
 use Rattle.kernel_int.proofs.block.write_last.Goals as goal
 
 pub write_block-requires-clause-whole : goal.write_block-requires-clause-whole

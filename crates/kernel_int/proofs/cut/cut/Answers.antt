@@ -1,5 +1,5 @@
 use Rattle.std.proofs.Common.{length, ap, ◌∙◌, arith}
-use Rattle.kernel_int.specs.Planes.{palette_length, row_length}
+use Rattle.kernel_planes.specs.Planes.{palette_length, row_length}
 use Rattle.kernel_int.proofs.CutRows.{behind_length, cut_rooms, cut_same, cut_total, four_sizes, read_has_planes, row_size}
 use Rattle.kernel_int.proofs.cut.cut.Goals as goal
 

@@ -1,8 +1,8 @@
 use Rattle.std.proofs.Common.{◌≡◌, ◌∙◌, arith}
 use Rattle.std.proofs.lemmas.List.{get_or_default}
 use Rattle.op_list.specs.declared.op.Op.TheVariants.{SwapBytes}
-use Rattle.kernel_int.specs.Forms.{op_at}
-use Rattle.kernel_int.proofs.Kernels.{at_least_two, first_follows, first_good}
+use Rattle.kernel_step.specs.Forms.{op_at}
+use Rattle.kernel_step.proofs.Kernels.{at_least_two, first_follows, first_good}
 use Rattle.kernel_int.proofs.kernel.read_op.Goals as goal
 
 pub bounds-ops-0 : goal.bounds-ops-0

@@ -1,9 +1,9 @@
 use Rattle.std.proofs.Common.{◌≡◌, ◌-◌, length, ◌∙◌, arith}
 use Rattle.std.proofs.lemmas.List.{get_or_default}
 use Rattle.op_list.specs.declared.op.Op.TheVariants.{SwapBytes}
-use Rattle.kernel_int.specs.Forms.{last_op}
+use Rattle.kernel_step.specs.Forms.{last_op}
 use Rattle.kernel_int.proofs.CutRows.{write_has_planes}
-use Rattle.kernel_int.proofs.Kernels.{at_least_two, last_good, last_writes}
+use Rattle.kernel_step.proofs.Kernels.{at_least_two, last_good, last_writes}
 use Rattle.kernel_int.proofs.kernel.write_op.Goals as goal
 
 pub overflow_sub-result : goal.overflow_sub-result

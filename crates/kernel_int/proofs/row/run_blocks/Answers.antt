@@ -4,11 +4,12 @@ use Rattle.std.proofs.lemmas.Bool.{cases_lt}
 use Rattle.op_list.specs.declared.types.Stage.TheVariants.{Start}
 use Rattle.op_list.specs.Values.{number, no_values}
 use Rattle.op_list.specs.Run.{run_from}
-use Rattle.kernel_int.specs.Block.{position_at}
-use Rattle.kernel_int.specs.Forms.{last_op, planes_of, elem_of}
-use Rattle.kernel_int.specs.Planes.{row_element, row_frame, row_length, row_list, rows_of}
-use Rattle.kernel_int.proofs.Kernels.{last_counts, run_value, written_few}
-use Rattle.kernel_int.proofs.RowFrames.{all_sizes, row_of_frame, same_sizes}
+use Rattle.kernel_planes.specs.Block.{position_at}
+use Rattle.kernel_step.specs.Forms.{last_op}
+use Rattle.kernel_planes.specs.Planes.{planes_of, elem_of}
+use Rattle.kernel_planes.specs.Planes.{row_element, row_frame, row_length, row_list, rows_of}
+use Rattle.kernel_step.proofs.Kernels.{last_counts, run_value, written_few}
+use Rattle.kernel_planes.proofs.RowFrames.{all_sizes, row_of_frame, same_sizes}
 use Rattle.kernel_int.proofs.row.run_blocks.Goals as goal
 
 pub loop-block-preserved : goal.loop-block-preserved

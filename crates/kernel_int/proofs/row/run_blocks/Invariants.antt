@@ -3,9 +3,10 @@ use Rattle.std.specs.Prelude.{sum}
 use Rattle.op_list.specs.declared.types.Stage.TheVariants.{Start}
 use Rattle.op_list.specs.Values.{number, no_values}
 use Rattle.op_list.specs.Run.{run_from}
-use Rattle.kernel_int.specs.Block.{position_at}
-use Rattle.kernel_int.specs.Forms.{last_op, planes_of, elem_of}
-use Rattle.kernel_int.specs.Planes.{row_element, row_frame, row_list, rows_of}
+use Rattle.kernel_planes.specs.Block.{position_at}
+use Rattle.kernel_step.specs.Forms.{last_op}
+use Rattle.kernel_planes.specs.Planes.{planes_of, elem_of}
+use Rattle.kernel_planes.specs.Planes.{row_element, row_frame, row_list, rows_of}
 use Rattle.kernel_int.proofs.row.run_blocks.Given as goal
 
 abbrev pub invariant-loop-block : goal.invariant-loop-block

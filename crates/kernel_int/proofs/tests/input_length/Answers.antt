@@ -3,8 +3,8 @@ use Rattle.std.specs.Prelude.{IfSome}
 use Rattle.std.proofs.lemmas.List.{get_or_default}
 use Rattle.op_list.specs.declared.op.Op.TheVariants.{SwapBytes}
 use Rattle.op_list.specs.Pixel.{frame_length}
-use Rattle.kernel_int.specs.Forms.{op_at}
-use Rattle.kernel_int.proofs.Kernels.{read_length_first}
+use Rattle.kernel_step.specs.Forms.{op_at}
+use Rattle.kernel_step.proofs.Kernels.{read_length_first}
 use Rattle.kernel_int.proofs.tests.input_length.Goals as goal
 
 pub returns : goal.returns

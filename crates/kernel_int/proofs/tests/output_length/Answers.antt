@@ -3,7 +3,7 @@ use Rattle.std.specs.Prelude.{IfSome}
 use Rattle.std.proofs.lemmas.List.{get_or_default}
 use Rattle.op_list.specs.declared.op.Op.TheVariants.{SwapBytes}
 use Rattle.op_list.specs.Pixel.{frame_length}
-use Rattle.kernel_int.specs.Forms.{last_op}
+use Rattle.kernel_step.specs.Forms.{last_op}
 use Rattle.kernel_int.proofs.tests.output_length.Goals as goal
 
 pub returns : goal.returns

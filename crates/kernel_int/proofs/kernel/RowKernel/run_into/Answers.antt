@@ -1,7 +1,8 @@
 use Rattle.std.proofs.Common.{◌≡◌, ◌++◌, ◌∙◌, ap, arith, slice_index}
 use Rattle.op_list.specs.Pixel.{element_of}
-use Rattle.kernel_int.specs.Forms.{last_op, planes_of, elem_of}
-use Rattle.kernel_int.specs.Planes.{row_length}
+use Rattle.kernel_step.specs.Forms.{last_op}
+use Rattle.kernel_planes.specs.Planes.{planes_of, elem_of}
+use Rattle.kernel_planes.specs.Planes.{row_length}
 use Rattle.kernel_int.proofs.CutRows.{four_sizes}
 use Rattle.kernel_int.proofs.PutRows.{HasPlanes, part_size, put_others, put_row, split_whole}
 use Rattle.kernel_int.proofs.kernel.RowKernel.run_into.Goals as goal

@@ -1,10 +1,10 @@
 use Rattle.std.proofs.Common.{rules, ◌≡◌, ◌≤◌, true, length, sym, ◌∙◌, arith}
 use Rattle.op_list.specs.declared.types.Stage.TheVariants.{Start}
 use Rattle.op_list.specs.Typing.{are_typed, ends_with_write}
-use Rattle.kernel_int.specs.Forms.{last_op, op_at}
-use Rattle.kernel_int.specs.Planes.{row_frame, rows_of}
+use Rattle.kernel_step.specs.Forms.{last_op, op_at}
+use Rattle.kernel_planes.specs.Planes.{row_frame, rows_of}
 use Rattle.kernel_int.proofs.CutRows.{cut_total, write_has_planes, write_palette}
-use Rattle.kernel_int.proofs.Kernels.{at_least_two, last_counts, last_good, last_writes, read_length_first}
+use Rattle.kernel_step.proofs.Kernels.{at_least_two, last_counts, last_good, last_writes, read_length_first}
 use Rattle.kernel_int.proofs.RunRows.{run_same}
 use Rattle.kernel_int.proofs.kernel.RowKernel.run_row.Goals as goal
 

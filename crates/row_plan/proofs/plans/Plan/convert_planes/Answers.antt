@@ -2,8 +2,8 @@ use Rattle.std.proofs.Common.{◌∙◌, ◌<◌, ℕ, [], sym}
 use Rattle.std.proofs.lemmas.Bool.{cond-false}
 use Rattle.std.proofs.lemmas.List.Elements.{All-nil}
 use Rattle.pix_desc.specs.Frame.{row_length}
-use Rattle.kernel_int.specs.Planes.{row_frame, row_list, rows_of}
-use Rattle.kernel_int.proofs.RowFrames.{same_sizes}
+use Rattle.kernel_planes.specs.Planes.{row_frame, row_list, rows_of}
+use Rattle.kernel_planes.proofs.RowFrames.{same_sizes}
 use Rattle.row_plan.specs.Planes.{AreRowsOf}
 use Rattle.row_plan.proofs.ConvertedRows.{are_bytes}
 use Rattle.row_plan.proofs.PlaneRows.{source_rows, source_palette, target_fits, row_frame_size, row_frame_bytes, row_is_target}

@@ -1,0 +1,9 @@
+pub mod CompiledWalks
+pub mod JointClears
+pub mod JointMade
+pub mod JointOps
+pub mod JointRows
+pub mod JointSteps
+pub mod JointValues
+pub mod JointWidths
+pub mod Rooms

@@ -1,0 +1,7 @@
+pub mod Blocks
+pub mod Palettes
+pub mod Parts
+pub mod PlaneRows
+pub mod Positions
+pub mod RowFrames
+pub mod Written

@@ -1,0 +1,52 @@
+// Whole numbers divided by a power of two.
+ghost use Rattle.std.specs.Prelude.{◌≡◌, ℕ, ◌*◌, ◌/◌, ◌%◌, ◌^◌, ◌<◌, ◌≤◌, ◌⊎◌, true, length};
+ghost use Rattle.op_list.specs.Types.{bits_at};
+ghost use Rattle.op_list.specs.Typing.{may_follow, are_good, stage_after};
+ghost use Rattle.kernel_step.specs.Forms.{IsBounded, IsStep, Performs};
+
+use crate::form::Form;
+use crate::numerator::Numerator;
+use kernel_lane::{Change, change_front};
+use kernel_planes::WholeNumber;
+use op_list::{Op, PixelPosition, Stage};
+
+// A number divided by 2^n, floored.
+#[derive(Clone, Copy)]
+struct ShiftedRight {
+    n: u8,
+}
+
+impl<W: WholeNumber> Change<W> for ShiftedRight {
+    ghost takes = { λ r _. r.n < W.bits };
+
+    ghost makes = { λ r x y. W.number y ≡ W.number x / 2 ^ r.n };
+
+    fn changed(self, x: W) -> W {
+        x.shifted_right(u32::from(self.n))
+    }
+}
+
+/// A RightShift of the values of a block.
+pub fn right_shift_step<W: WholeNumber, N: Numerator>(
+    n: u8,
+    stage: Stage,
+    _position: &PixelPosition,
+    before: &Form,
+    after: &Form,
+    values: &mut [W],
+    _numbers: &[N],
+)
+    requires follows { may_follow stage (Op.RightShift n) ≡ true }
+    requires good { are_good stage (Op.RightShift n) ≡ true }
+    requires step { IsStep W.bits N.width stage before.now (Op.RightShift n) after.now }
+    requires stored { 2 ^ bits_at (stage_after stage (Op.RightShift n)) ≤ 2 ^ W.bits }
+    requires few { after.now.count ≤ 4 }
+    requires block { length values.old ≡ 256 }
+    requires bounded { IsBounded W.number N.value stage before.now values.old _numbers.now }
+    ensures bounded { IsBounded W.number N.value
+        (stage_after stage (Op.RightShift n)) after.now values.new _numbers.now }
+    ensures holds { Performs W.number N.value stage before.now
+        (Op.RightShift n) after.now _position.now values.old _numbers.now values.new _numbers.now }
+{
+    change_front::<W, ShiftedRight>(ShiftedRight { n }, values, 64 * after.count);
+}
