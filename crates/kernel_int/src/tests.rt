@@ -417,7 +417,10 @@ fn is_narrow(alloc: Global, ops: &[Op]) -> bool {
     let Ok(list) = list_of(alloc, ops) else {
         return false;
     };
-    if !list.whole() || !fits(&list) {
+    if !list.whole() {
+        return false;
+    }
+    if !fits(&list) {
         return false;
     }
     let Ok(states) = ranges(alloc, &list) else {
