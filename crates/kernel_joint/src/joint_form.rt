@@ -112,6 +112,20 @@ pub fn joint_kept_form(before: &Form) -> Form
     }
 }
 
+// Value v after they changed places.
+fn moved_at(from: &[u8; 4], before: &Form, v: usize) -> Made
+    requires v { v < 4 }
+    requires count { before.now.count ≡ 4 }
+    requires from { All (λ i. i < 4) from.now }
+    ensures there { slice_index from.now v < before.now.count }
+    ensures same { result.extent ≡ extent_at before.now (slice_index from.now v) }
+{
+    Made {
+        factors: [0; 5],
+        extent: before.extents[usize::from(from[v])],
+    }
+}
+
 /// Four values that change places.
 pub fn joint_moved_form(from: &[u8; 4], before: &Form) -> Form
     requires count { before.now.count ≡ 4 }
@@ -119,18 +133,11 @@ pub fn joint_moved_form(from: &[u8; 4], before: &Form) -> Form
     ensures count { result.count ≡ 4 }
     ensures moved { (v : ℕ) → v < 4 → IsMoved before.now (slice_index from.now v) result v }
 {
-    let mut after = Form {
-        count: 0,
-        extents: before.extents,
-        factors: [[0; 5]; 4],
-        divisors: [NO_DIVISOR; 4],
-    };
-    for v in 0..4 {
-        let u = usize::from(from[v]);
-        after.count += 1;
-        after.extents[v] = before.extents[u];
-    }
-    after
+    let first = moved_at(from, before, 0);
+    let second = moved_at(from, before, 1);
+    let third = moved_at(from, before, 2);
+    let fourth = moved_at(from, before, 3);
+    form_of(first, second, third, fourth)
 }
 
 /// Four values whose floors are taken by a division.
