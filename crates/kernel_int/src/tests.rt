@@ -395,13 +395,11 @@ fn fractions(rt: HostRuntime) {
 #[test]
 fn joint_in_64_bits(rt: HostRuntime) {
     // A factor of more than 64 bits, where each value is 0 before it.
-    let zero = Some(Frac::whole(0));
+    let zeros = [Some(Frac::whole(0)); 4];
     let ops = [
         read(PixType::U8, [4, 0, 0, 0]),
         convert(PixType::Rat),
-        Op::Clear {
-            values: [zero, zero, zero, zero],
-        },
+        Op::Clear { values: zeros },
         Op::Scale {
             by: Frac::whole(1 << 100),
         },

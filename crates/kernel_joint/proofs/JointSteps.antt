@@ -87,7 +87,8 @@ fractions_made stage (Convert U32 expand) h = cc
 fractions_made stage op h = cc
 
 whole_step : (number_width : NumberWidth) (bits : ℕ) (op : Op) (stage : Stage) (before after : Form) (next : Width)
-    → is_rational (stage_after stage op) ≡ false → after.count ≡ 4 → IsStep bits (width_of number_width) stage before op after → IsJointStep number_width bits stage before op after next
+    → is_rational (stage_after stage op) ≡ false → after.count ≡ 4 → IsStep bits (width_of number_width) stage before op after
+    → IsJointStep number_width bits stage before op after next
 whole_step number_width bits op stage before after next kind count step = record {
   few = omega (arith, count);
   step = step;

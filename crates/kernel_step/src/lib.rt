@@ -4,7 +4,6 @@
 mod clear;
 mod common;
 mod convert;
-mod counts;
 mod dither;
 mod fields;
 mod form;

@@ -17,8 +17,8 @@ returns-clause-bounded g c =
     mapped_bounded g.W.WholeNumber.number g.N.Numerator.value c.args.stage (LeftShift c.args.n)
     (λ m. m * 2 ^ c.args.n % 2 ^ c.bits.result) c.args.before.now c.args.after.now c.args.values.now c.change_front.new.v
     c.args._numbers.now
-    (left_map c.args.stage c.args.n c.bits.result c.bits.ensures c.requires.follows c.requires.good) c.requires.step c.change_front.ensures.set
-    c.requires.bounded
+    (left_map c.args.stage c.args.n c.bits.result c.bits.ensures c.requires.follows c.requires.good) c.requires.step
+    c.change_front.ensures.set c.requires.bounded
 
 pub returns-clause-holds : goal.returns-clause-holds
 returns-clause-holds g c =

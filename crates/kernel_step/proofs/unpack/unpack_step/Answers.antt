@@ -6,7 +6,8 @@ use Rattle.kernel_step.proofs.unpack.unpack_step.Goals as goal
 pub unpack_field-requires-clause-room : goal.unpack_field-requires-clause-room
 unpack_field-requires-clause-room g c =
     rw c.bits_below.ensures
-    (unpack_room c.args.stage c.args.widths.now c.loop-v.v g.W.WholeNumber.bits (omega arith) (omega arith) c.requires.good c.requires.stored)
+    (unpack_room c.args.stage c.args.widths.now c.loop-v.v g.W.WholeNumber.bits (omega arith) (omega arith)
+    c.requires.good c.requires.stored)
 
 pub returns-clause-bounded : goal.returns-clause-bounded
 returns-clause-bounded g c =

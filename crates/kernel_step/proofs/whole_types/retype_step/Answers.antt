@@ -12,8 +12,8 @@ change_front-requires-clause-takes g c =
       rw c.bits.ensures (bits_most (Typed c.args.to)),
       mapped_fits g.W.WholeNumber.number g.N.Numerator.value g.W.WholeNumber.bits c.args.stage (Convert c.args.to c.args.expand)
           (λ m. m * c.factor_of.result % 2 ^ c.bits.result) c.args.before.now c.args.after.now c.args.values.now c.args._numbers.now
-          (retype_map c.args.stage c.args.to c.args.expand c.factor_of.result c.bits.result c.factor_of.ensures c.bits.ensures c.requires.before
-          c.requires.whole) c.requires.there c.requires.stored c.requires.bounded
+          (retype_map c.args.stage c.args.to c.args.expand c.factor_of.result c.bits.result c.factor_of.ensures c.bits.ensures
+          c.requires.before c.requires.whole) c.requires.there c.requires.stored c.requires.bounded
           j x below,
     )
 
