@@ -1,8 +1,8 @@
 -- What is made of the elements of a list, one behind the other.
-use Rattle.std.proofs.Common.{◌≡◌, ℕ, suc, ◌+◌, ◌<◌, arith, subst, List, [], ◌∷◌, ◌++◌, length, map, get_or, set, take, drop, sym, ◌∙◌, ap}
+use Rattle.std.proofs.Common.{◌≡◌, ℕ, suc, ◌+◌, ◌<◌, subst, List, [], ◌∷◌, ◌++◌, length, map, get_or, set, take, drop, sym, ◌∙◌, ap}
 use Rattle.std.specs.List.{concat}
 use Rattle.std.proofs.lemmas.List.{append-nil, map-append, take_more, take_more_set, set_split, set-get_or}
-use Rattle.std.proofs.lemmas.List.{length-map, get_or-drop, drop-drop, drop-set-lt}
+use Rattle.std.proofs.lemmas.List.{length-map}
 use Rattle.std.proofs.Math.ListN.{get_or-map}
 use Rattle.std.proofs.lemmas.List.Elements.{All-get_or}
 use Rattle.std.proofs.lemmas.List.Folds.{concat-append}
@@ -40,17 +40,6 @@ pub all_at : {X Y : Type 0} (P : Y → Type 0) (f : X → Y) (xs : List X) (i : 
     → P (f (get_or xs i d))
 all_at P f xs i d within all =
     subst P (get_or-map f xs i d) (All-get_or P (map f xs) i (f d) (subst (λ n. i < n) (sym (length-map xs f)) within) all)
-
--- lists that agree from a place on agree there
-pub agree_there : {X : Type 0} (xs ys : List X) (i : ℕ) (d : X) → drop i xs ≡ drop i ys → get_or xs i d ≡ get_or ys i d
-agree_there {X = X} xs ys i d rest =
-    let at : (zs : List X) → get_or (drop i zs) 0 d ≡ get_or zs i d = λ zs. get_or-drop i zs 0 d
-    ∙ ap (λ n. get_or zs n d) {x = i + 0} {y = i} (omega arith) in
-    sym (at xs) ∙ ap (λ l. get_or l 0 d) rest ∙ at ys
-
--- and behind it, whatever is put there
-pub agree_behind : {X : Type 0} (xs ys : List X) (i : ℕ) (y : X) → drop i xs ≡ drop i ys → drop (i + 1) (set xs i y) ≡ drop (i + 1) ys
-agree_behind xs ys i y rest = drop-set-lt (i + 1) xs i y (omega arith) ∙ sym (drop-drop 1 i xs) ∙ ap (drop 1) rest ∙ drop-drop 1 i ys
 
 module _ {X Y : Type 0} (f : X → Y) where
   pub map_more : (xs : List X) (i : ℕ) (d : X) → i < length xs → map f (take (i + 1) xs) ≡ map f (take i xs) ++ (f (get_or xs i d) ∷ [])

@@ -1,6 +1,9 @@
 pub mod Chained
-pub mod ClosedJobs
 pub mod CutPlaces
+pub mod Fed
+pub mod Fronts
+pub mod Gathered
+pub mod LeftOff
 pub mod MadeBytes
 pub mod PlaneParts
 pub mod ReadsOn

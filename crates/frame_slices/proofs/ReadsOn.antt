@@ -172,10 +172,3 @@ pub both_read : (a b c : Shown) (first second : List ℕ) → Takes a b first �
 both_read a b c first second before quiet now =
     let both = whole_on a b c first second before quiet now in
     all_read a c (first ++ second) both.0 both.1
-
--- a range of the buffer is one of the read
-pub range_of : (result : Result Got Failed) (size : ℕ) → IfOk result (λ got. StopsInside got size) → IfOk result (λ got. IsInRange got size)
-range_of (Ok Whole) size stops = tt
-range_of (Ok End) size stops = tt
-range_of (Ok (Short n)) size stops = stops
-range_of (Err e) size stops = tt

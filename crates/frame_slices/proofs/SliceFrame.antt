@@ -145,7 +145,7 @@ module _ (source target : Desc) (width height : ℕ) (slices : List FrameSlice) 
       (behind_there made) made.places made.behinds (all_lie made)
 
 -- a palette, or nothing
-behind_size : (source target : Desc) (width first : ℕ) (slice : FrameSlice) (slices : List FrameSlice)
+pub behind_size : (source target : Desc) (width first : ℕ) (slice : FrameSlice) (slices : List FrameSlice)
     → map place_of (slice ∷ slices) ≡ places_from source target width first (map rows_of (slice ∷ slices))
     → length (behind_of slice) ≡ (if source.palette then 1024 else 0)
 unfolding frame_length
@@ -221,21 +221,6 @@ pub source_is : (whole : Place) (slices : List FrameSlice) → map place_of slic
     → source_in whole slices ≡ planes_in 4 slices ++ behind_in slices
 unfolding source_in
 source_is whole slices places = joined_is whole.source whole.target whole.width slices places
-
-pub length-source : (whole : Place) (slices : List FrameSlice) → MakeFrame whole.source whole.target whole.width whole.rows slices
-    → length (source_in whole slices) ≡ frame_length whole.source whole.width whole.rows
-unfolding source_in
-length-source whole slices made = length-joined whole.source whole.target whole.width whole.rows slices made
-
-pub slices_of_source : (whole : Place) (slices : List FrameSlice) → MakeFrame whole.source whole.target whole.width whole.rows slices
-    → slices_of whole.source whole.width whole.rows (source_in whole slices) 0 (map rows_of slices) ≡ map input_of slices
-unfolding source_in
-slices_of_source whole slices made = slices_are_its whole.source whole.target whole.width whole.rows slices made
-
-pub source_kept : (whole : Place) (old new : List FrameSlice) → map input_of new ≡ map input_of old → source_in whole new
-    ≡ source_in whole old
-unfolding source_in
-source_kept whole old new inputs = ap (joined whole.source whole.width) inputs
 
 pub target_is : (pair : Pair) (whole : Place) (old new : List FrameSlice) → IsValidPair pair → pair.to.desc.palette ≡ false
     → pair.from.desc ≡ whole.source → pair.to.desc ≡ whole.target → MakeFrame whole.source whole.target whole.width whole.rows old

@@ -7,13 +7,12 @@ use Rattle.std.proofs.lemmas.List.{append_assoc, length-map}
 use Rattle.pix_desc.specs.declared.desc.Desc.{Desc}
 use Rattle.pix_desc.specs.Frame.{row_length, plane_length, plane_start, frame_length}
 use Rattle.std.proofs.lemmas.List.Sums.{sum_by-cons}
-use Rattle.row_plan.specs.Slices.{RowSlice, plane_rows, behind_planes, joined_plane, joined_planes, behind_first, joined}
+use Rattle.row_plan.specs.Slices.{plane_rows, behind_planes, joined_plane, joined_planes, behind_first, joined}
 use Rattle.row_plan.proofs.SlicePlanes.{length-plane_rows, planes_in_frame}
-use Rattle.pix_meaning.specs.declared.pair.Pair.{Pair}
 use Rattle.frame_slices.specs.declared.frame_slice.Place.{Place}
 use Rattle.frame_slices.specs.declared.frame_slice.FrameSlice.{FrameSlice}
 use Rattle.frame_slices.specs.FrameSlices.{place_of, rows_of, input_of, places_from, plane_of, plane_in, planes_in, behind_of, behind_in}
-use Rattle.frame_slices.specs.FrameSlices.{target_plane_in, target_planes_in, HaveOnePalette, IsFor}
+use Rattle.frame_slices.specs.FrameSlices.{target_plane_in, target_planes_in, HaveOnePalette}
 
 -- the place of the first, and the places of the others
 pub first_place : (source target : Desc) (width first : ℕ) (slice : FrameSlice) (slices : List FrameSlice)
@@ -84,13 +83,20 @@ planes_split p (suc k) slices =
     rw add-suc (ap (λ l. l ++ plane_in (p + k) slices) (planes_split p k slices)
     ∙ append_assoc (planes_in p slices) (planes_from p k slices) (plane_in (p + k) slices))
 
--- all planes: those before one, that one, and those behind it
+-- the first planes: those before one, that one, and those behind it
+pub planes_until : (n p : ℕ) (slices : List FrameSlice) → p < n → planes_in n slices ≡ planes_in p slices
+    ++ (plane_in p slices ++ planes_from (suc p) (n - suc p) slices)
+planes_until n p slices before =
+    ap (λ k. planes_in k slices) {x = n} {y = suc p + (n - suc p)} (omega arith)
+    ∙ planes_split (suc p) (n - suc p) slices
+    ∙ append_assoc (planes_in p slices) (plane_in p slices) (planes_from (suc p) (n - suc p) slices)
+
+-- so all of them
 pub planes_around : (p : ℕ) (slices : List FrameSlice) → p < 4 → planes_in 4 slices ≡ planes_in p slices
     ++ (plane_in p slices ++ planes_from (suc p) (3 - p) slices)
 planes_around p slices used =
-    ap (λ n. planes_in n slices) {x = 4} {y = suc p + (3 - p)} (omega arith)
-    ∙ planes_split (suc p) (3 - p) slices
-    ∙ append_assoc (planes_in p slices) (plane_in p slices) (planes_from (suc p) (3 - p) slices)
+    planes_until 4 p slices used ∙ ap (λ k. planes_in p slices ++ (plane_in p slices ++ planes_from (suc p) k slices)) {x = 4 - suc p} {y =
+    3 - p} (omega arith)
 
 -- ---- slices put together
 
@@ -178,11 +184,6 @@ pub all_planes_kept : (p : ℕ) (xs ys : List FrameSlice) → ((q : ℕ) → q <
 all_planes_kept zero xs ys same used = refl
 all_planes_kept (suc p) xs ys same used = ap₂ ◌++◌ (all_planes_kept p xs ys same (omega arith)) (ap concat (same p (omega arith)))
 
--- what stands behind the planes is the first's
-pub behind_is_first : (slice : FrameSlice) (slices : List FrameSlice) (bytes : List ℕ) → map behind_of (slice ∷ slices)
-    ≡ map (λ _. bytes) (slice ∷ slices) → behind_of slice ≡ bytes
-behind_is_first slice slices bytes same = ap (λ l. get_or l 0 bytes) same
-
 -- ---- one palette
 
 -- where all have it, the first has it
@@ -227,24 +228,6 @@ pub all_have : (source target : Desc) (width : ℕ) (slices : List FrameSlice) �
 all_have source target width slices places has =
     subst (All (λ place. place.source.palette ≡ true)) (sym places)
     (λ k d within. subst (λ (desc : Desc). desc.palette ≡ true) (places_are_of source target width 0 (map rows_of slices) k d within).0 has)
-
-pub all_for : (pair : Pair) (width : ℕ) (slices : List FrameSlice) → map place_of slices
-    ≡ places_from pair.from.desc pair.to.desc width 0 (map rows_of slices)
-    → All (IsFor pair) (map place_of slices)
-all_for pair width slices places =
-    subst (All (IsFor pair)) (sym places) (λ k d within. places_are_of pair.from.desc pair.to.desc width 0 (map rows_of slices) k d within)
-
--- what stands behind the planes is the palette, of slices whose places and sources are the same
-pub behind_same : (xs ys : List FrameSlice) → map place_of ys ≡ map place_of xs → map input_of ys ≡ map input_of xs → map behind_of ys
-    ≡ map behind_of xs
-behind_same [] [] places inputs = refl
-behind_same [] (y ∷ ys) places inputs = absurd (omega (arith, ap length places))
-behind_same (x ∷ xs) [] places inputs = absurd (omega (arith, ap length places))
-behind_same (x ∷ xs) (y ∷ ys) places inputs =
-    ap₂ ◌∷◌
-    (ap₂ (λ (place : Place) (slice : RowSlice). behind_planes place.source place.width place.rows slice.bytes)
-    (ap (λ l. get_or l 0 x.place) places) (ap (λ l. get_or l 0 (input_of x)) inputs))
-    (behind_same xs ys (ap (drop 1) places) (ap (drop 1) inputs))
 
 pub same_length : (xs ys : List FrameSlice) → map place_of xs ≡ map place_of ys → length xs ≡ length ys
 same_length xs ys same = sym (length-map xs place_of) ∙ ap length same ∙ length-map ys place_of

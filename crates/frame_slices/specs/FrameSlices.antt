@@ -1,9 +1,8 @@
 -- A frame held as slices of its rows: what they hold, and how a read that goes on from slice to slice ends.
-use Rattle.std.specs.Prelude.{◌≡◌, ℕ, zero, suc, ◌+◌, ◌-◌, ◌*◌, ◌/◌, ◌<◌, ◌≤◌, false, min, List, [], ◌∷◌, ◌++◌, map, length, Result, IfOk}
+use Rattle.std.specs.Prelude.{◌≡◌, ℕ, zero, suc, ◌+◌, ◌-◌, ◌*◌, ◌/◌, ◌<◌, min, List, [], ◌∷◌, ◌++◌, map, length, Result, IfOk}
 use Rattle.std.specs.Prelude.{OnErr, nat_eq, if◌then◌else◌}
 use Rattle.std.specs.List.{concat, range_with_len}
 use Rattle.pix_desc.specs.declared.desc.Desc.{Desc}
-use Rattle.pix_desc.specs.Layouts.{IsValid}
 use Rattle.pix_io.specs.Shown.{Shown}
 use Rattle.pix_io.specs.Faults.{HasCause}
 use Rattle.pix_io.specs.Streams.{TakesWhole, TakesPart}
@@ -13,8 +12,6 @@ use Rattle.pix_io.specs.declared.transfer.Got.TheVariants.{Whole, End, Short}
 use Rattle.pix_meaning.specs.declared.pair.Pair.{Pair}
 use Rattle.pix_meaning.specs.Target.{target_rows}
 use Rattle.row_plan.specs.Slices.{RowSlice, plane_rows, behind_planes, joined}
-use Rattle.row_plan.specs.Jobs.{slice_origin}
-use Rattle.row_plan.specs.declared.job.SliceJob.{SliceJob}
 use Rattle.frame_slices.specs.declared.frame_slice.Place.{Place}
 use Rattle.frame_slices.specs.declared.frame_slice.FrameSlice.{FrameSlice}
 
@@ -37,10 +34,6 @@ output_of slice = record { rows = slice.place.rows; bytes = slice.output.items }
 
 abbrev pub output_bytes : FrameSlice → List ℕ
 output_bytes slice = slice.output.items
-
--- the pair of a conversion has the slice's formats
-abbrev pub IsFor : Pair → Place → Type 0
-IsFor pair place = (pair.from.desc ≡ place.source) × (pair.to.desc ≡ place.target)
 
 -- the target rows of a slice's source
 abbrev pub target_of : Pair → FrameSlice → List ℕ
@@ -65,32 +58,6 @@ slice_count whole each = (whole.rows - 1) / each + 1
 -- slices that cut the whole frame so
 abbrev pub AreCut : Place → ℕ → List FrameSlice → Type 0
 AreCut whole each slices = map place_of slices ≡ map (slice_place whole each) (range_with_len 0 (slice_count whole each))
-
--- ---- slices as jobs
-
--- what the job of a slice is given with, for a pair
-abbrev pub origin_for : Pair → FrameSlice → List ℕ
-origin_for pair slice = slice_origin pair slice.place.width slice.place.first slice.place.rows slice.input.items
-
--- where the rows of a job lie, its bytes of the source, and its bytes of the target
-abbrev pub place_of_job : SliceJob → Place
-place_of_job job =
-    record { source = job.pair.from.desc; target = job.pair.to.desc; width = job.width; first = job.first; rows = job.rows }
-
-abbrev pub input_of_job : SliceJob → RowSlice
-input_of_job job = record { rows = job.rows; bytes = job.input.items }
-
-abbrev pub output_of_job : SliceJob → List ℕ
-output_of_job job = job.output.items
-
--- where rows of a frame may lie
-pub record IsPlace (place : Place) : Type 0 where
-  pub source : IsValid place.source
-  pub target : IsValid place.target
-  pub plain : place.target.palette ≡ false
-  pub width : place.width ≤ 16384
-  pub some : 0 < place.rows
-  pub last : place.first + place.rows ≤ 16384
 
 -- ---- plane by plane
 

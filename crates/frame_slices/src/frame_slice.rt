@@ -8,8 +8,6 @@ ghost use Rattle.pix_desc.specs.Frame.{frame_length, plane_start, plane_length};
 use frac_math::OutOfMemory;
 use pix_desc::Desc;
 use pix_io::{Failed, Got, Sink, Source, frame_len, read_whole, row_start, write_all};
-use pix_meaning::Pair;
-use row_plan::SliceJob;
 use std::alloc::Global;
 
 /// Where some rows of a frame lie.
@@ -64,13 +62,9 @@ pub fn plane_at(desc: &Desc, width: u32, rows: u32, plane: u8) -> usize
 }
 
 impl FrameSlice {
-    ghost use Rattle.row_plan.specs.Jobs.{job_origin};
     ghost use Rattle.pix_io.specs.Faults.{HasCause};
     ghost use Rattle.pix_io.specs.Streams.{Writes, WritesPart};
     ghost use Rattle.frame_slices.specs.FrameSlices.{plane_of, target_plane_of, behind_of, Reads};
-    ghost use Rattle.frame_slices.specs.FrameSlices.{input_of, output_bytes, IsFor, IsPlace};
-    ghost use Rattle.frame_slices.specs.FrameSlices.{origin_for, place_of_job, input_of_job};
-    ghost use Rattle.frame_slices.specs.FrameSlices.{output_of_job};
 
     /// The slice at a place, with all bytes 0.
     pub fn new(alloc: Global, place: &Place) -> Result<Self, OutOfMemory>
@@ -164,47 +158,5 @@ impl FrameSlice {
         let place = self.place;
         let start = plane_at(&place.source, place.width, place.rows, 4);
         self.input[start..].copy_from_slice(palette);
-    }
-
-    // The job with this number that converts its rows for a pair.
-    pub(crate) fn into_job(self, number: u32, pair: &Pair) -> SliceJob
-        requires { IsFor pair.now self.place }
-        ensures number { result.number ≡ number }
-        ensures origin { job_origin result ≡ origin_for pair.now self }
-    {
-        let FrameSlice {
-            place,
-            input,
-            output,
-        } = self;
-        let Place {
-            width,
-            first,
-            rows,
-            ..
-        } = place;
-        SliceJob::new(number, *pair, width, first, rows, input, output)
-    }
-
-    // The slice of a job.
-    pub(crate) fn from_job(job: SliceJob) -> Self
-        requires { IsPlace (place_of_job job) }
-        ensures place { result.place ≡ place_of_job job }
-        ensures input { input_of result ≡ input_of_job job }
-        ensures output { output_bytes result ≡ output_of_job job }
-    {
-        let place = Place {
-            source: job.pair().from.desc,
-            target: job.pair().to.desc,
-            width: job.width(),
-            first: job.first(),
-            rows: job.rows(),
-        };
-        let (input, output) = job.into_buffers();
-        FrameSlice {
-            place,
-            input,
-            output,
-        }
     }
 }

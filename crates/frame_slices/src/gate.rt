@@ -1,12 +1,11 @@
 // Who sees each slice before it is converted.
 
-use row_plan::SliceJob;
 use slice_claim::Held;
 
-/// It sees each slice that a worker has claimed, before it is converted. It has no meaning for any
-/// result.
+/// It sees each slice that a worker has claimed, once it is read and before it is converted. It has
+/// no meaning for any result.
 pub trait Gate: Sync {
-    fn pass(&self, held: &Held<SliceJob>);
+    fn pass<J>(&self, held: &Held<J>);
 }
 
 /// A gate that lets every slice through at once.
@@ -14,5 +13,5 @@ pub trait Gate: Sync {
 pub struct OpenGate;
 
 impl Gate for OpenGate {
-    fn pass(&self, _held: &Held<SliceJob>) {}
+    fn pass<J>(&self, _held: &Held<J>) {}
 }

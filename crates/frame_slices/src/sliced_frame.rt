@@ -1,22 +1,24 @@
 // A frame held as slices of its rows.
-ghost use Rattle.std.specs.Prelude.{◌≡◌, ◌+◌, ◌<◌, ◌≤◌, ◌^◌, false, sum, map, vec_len, IfOk, OnOk};
+ghost use Rattle.std.specs.Prelude.{◌≡◌, ◌+◌, ◌<◌, ◌≤◌, ◌^◌, false, sum, map, vec_len, IfOk, IfErr, OnOk};
 ghost use Rattle.std.specs.Prelude.{OnErr};
 ghost use Rattle.std.specs.Coded.{Coded-set};
 ghost use Rattle.std.proofs.Props.{props};
 ghost use Rattle.pix_desc.specs.Layouts.{IsValid};
-ghost use Rattle.frame_slices.specs.FrameSlices.{place_of, rows_of, places_from, HaveOnePalette};
+ghost use Rattle.frame_slices.specs.FrameSlices.{place_of, rows_of, places_from};
 
-use crate::converting::convert_slices;
+use crate::converting::convert_frame;
 use crate::cutting::cut;
 use crate::frame_slice::{FrameSlice, Place};
 use crate::gate::Gate;
-use crate::slices::{read_frame, write_planes};
+use crate::slices::write_planes;
 use crate::sums::sum_planes;
+use crate::unfinished::Unfinished;
 use frac_math::OutOfMemory;
 use pix_desc::Desc;
-use pix_io::{Failed, Got, Sink, Source};
+use pix_io::{Failed, Sink, Source};
 use row_plan::Plan;
 use std::alloc::Global;
+use std::sync::Wait;
 use std::thread::Threads;
 
 /// A frame held as slices of its rows: of each the bytes of the source and those of the target.
@@ -37,17 +39,14 @@ pub struct SlicedFrame {
     pub ghost places: { map place_of slices.items
         ≡ places_from whole.source whole.target whole.width 0 (map rows_of slices.items) },
     pub ghost covers: { sum (map rows_of slices.items) ≡ whole.rows },
-    pub ghost behind: { HaveOnePalette slices.items },
 }
 
 impl SlicedFrame {
-    ghost use Rattle.std.specs.Prelude.{length};
     ghost use Rattle.pix_desc.specs.Frame.{frame_length};
-    ghost use Rattle.pix_meaning.specs.Target.{target_frame};
     ghost use Rattle.pix_io.specs.Faults.{HasCause};
-    ghost use Rattle.pix_io.specs.Streams.{TakesWhole, TakesPart, IsInRange, Writes, WritesPart};
-    ghost use Rattle.row_plan.specs.Slices.{slices_of};
-    ghost use Rattle.frame_slices.specs.FrameSlices.{input_of, source_in, target_in, AreCut};
+    ghost use Rattle.pix_io.specs.Streams.{Writes, WritesPart};
+    ghost use Rattle.frame_slices.specs.FrameSlices.{target_in, AreCut};
+    ghost use Rattle.frame_slices.specs.Converting.{ConvertsNext, LeavesOff};
 
     /// The slices of a frame of that size, each of `slice_height` rows, the last one shorter where
     /// it must be.
@@ -83,57 +82,39 @@ impl SlicedFrame {
         Ok(SlicedFrame { whole, slices })
     }
 
-    /// Reads a frame straight into the slices, plane after plane, and its palette where it has one.
-    ///
-    /// `Failed` comes only where the input's count of faults rises; fewer bytes than the frame has
-    /// were then taken.
-    pub fn read<In: Source>(&mut self, input: &mut In) -> Result<Got, Failed>
-        ensures taken { IfOk result
-            (λ got. TakesWhole (In.shown input.old) (In.shown input.new) got
-            (source_in self.new.whole self.new.slices.items)) }
-        ensures range { IfOk result
-            (λ got. IsInRange got (length (source_in self.new.whole self.new.slices.items))) }
-        ensures part_taken { OnErr result
-            (TakesPart (In.shown input.old) (In.shown input.new)
-            (source_in self.new.whole self.new.slices.items)) }
-        ensures cause { HasCause (In.shown input.old) (In.shown input.new) result }
-        ensures slices { slices_of self.new.whole.source self.new.whole.width self.new.whole.rows
-            (source_in self.new.whole self.new.slices.items) 0 (map rows_of self.new.slices.items)
-            ≡ map input_of self.new.slices.items }
-        ensures size { length (source_in self.new.whole self.new.slices.items)
-            ≡ frame_length self.new.whole.source self.new.whole.width self.new.whole.rows }
-        ensures whole { self.new.whole ≡ self.old.whole }
-    {
-        read_frame(&mut self.slices, &self.whole, input)
-    }
-
-    /// Converts the frame that was read. So many workers, and no more than there are slices, claim
-    /// the slices on a board; each passes the gate with a slice before it converts it.
+    /// Reads the next frame of the input straight into the slices, plane after plane, and its palette
+    /// where it has one, and converts it. So many workers, and no more than there are slices, claim
+    /// the slices on a board; each waits until its slice is read, passes the gate with it, and
+    /// converts it. The caller's thread reads, and then works too.
     ///
     /// One worker, or one slice, costs no thread, and the bytes are the same for every number of
-    /// workers. The board takes its memory before the first slice is claimed; where it is not to be
-    /// had, the frame is dropped.
-    pub fn convert<R: Threads + Sync, G: Gate>(
+    /// workers. Memory is taken before the last plane is read; where it is refused, or where the
+    /// read stops, the frame is dropped. `Failed` comes only where the input's count of faults
+    /// rises; fewer bytes than the frame has were then taken.
+    pub fn convert_next<R: Threads + Wait + Sync, In: Source, G: Gate>(
         self,
         rt: &R,
         alloc: Global,
         plan: &Plan,
         workers: u32,
         gate: &G,
-    ) -> Result<Self, OutOfMemory>
+        input: &mut In,
+    ) -> Result<Self, Unfinished>
         requires source { plan.now.pair.from.desc ≡ self.whole.source }
         requires target { plan.now.pair.to.desc ≡ self.whole.target }
         requires workers { 0 < workers }
-        ensures target { IfOk result (λ frame. target_in frame.whole frame.slices.items
-            ≡ target_frame plan.now.pair self.whole.width self.whole.rows
-            (source_in self.whole self.slices.items)) }
-        ensures source { IfOk result (λ frame. source_in frame.whole frame.slices.items
-            ≡ source_in self.whole self.slices.items) }
+        ensures converted { IfOk result (λ frame. ConvertsNext plan.now.pair self.whole.width
+            self.whole.rows (In.shown input.old) (In.shown input.new)
+            (target_in frame.whole frame.slices.items)) }
+        ensures left { IfErr result (LeavesOff (frame_length self.whole.source self.whole.width
+            self.whole.rows) (In.shown input.old) (In.shown input.new)) }
         ensures whole { IfOk result (λ frame. frame.whole ≡ self.whole) }
     {
         let SlicedFrame { whole, slices } = self;
-        let slices = convert_slices(rt, alloc, plan, workers, gate, slices)?;
-        Ok(SlicedFrame { whole, slices })
+        match convert_frame(rt, alloc, plan, workers, gate, &whole, slices, input) {
+            Ok(slices) => Ok(SlicedFrame { whole, slices }),
+            Err(why) => Err(why),
+        }
     }
 
     /// Writes the target frame straight from the slices.

@@ -1,22 +1,22 @@
 // All slices of a frame, one after the other.
-ghost use Rattle.std.specs.Prelude.{◌≡◌, ◌≢◌, ◌+◌, ◌<◌, ◌≤◌, ◌^◌, ◌++◌, ℕ, List, true, All, length};
-ghost use Rattle.std.specs.Prelude.{map, sum, IfOk, OnOk, OnErr};
+ghost use Rattle.std.specs.Prelude.{◌≡◌, ◌≢◌, ◌+◌, ◌<◌, ◌≤◌, ◌^◌, ◌++◌, ℕ, List, true, false, All, length};
+ghost use Rattle.std.specs.Prelude.{map, sum, IfSome, IfOk, OnOk, OnErr};
 ghost use Rattle.pix_desc.specs.Layouts.{IsValid};
-ghost use Rattle.pix_desc.specs.Frame.{frame_length};
 ghost use Rattle.pix_io.specs.Faults.{HasCause};
 ghost use Rattle.pix_io.specs.Streams.{Writes, WritesPart};
-ghost use Rattle.row_plan.specs.Slices.{slices_of};
-ghost use Rattle.frame_slices.specs.FrameSlices.{place_of, rows_of, places_from, input_of};
+ghost use Rattle.frame_slices.specs.declared.frame_slice.FrameSlice.{FrameSlice};
+ghost use Rattle.frame_slices.specs.FrameSlices.{place_of, rows_of, places_from};
 ghost use Rattle.frame_slices.specs.FrameSlices.{plane_of, plane_in, planes_in, target_plane_in};
 ghost use Rattle.frame_slices.specs.FrameSlices.{target_planes_in, behind_of, behind_in};
 ghost use Rattle.frame_slices.specs.FrameSlices.{got_behind, count_in, source_in, HaveOnePalette};
 ghost use Rattle.frame_slices.specs.FrameSlices.{Reads};
+ghost use Rattle.frame_slices.specs.Handing.{part_in, front_in, IsPart, IfWhole, AreOfFrame};
 
 use crate::frame_slice::{FrameSlice, Place, plane_at};
-use pix_io::{Failed, Got, Sink, Source, read_whole};
+use pix_io::{Failed, Got, Sink, Source, frame_len, read_whole};
 
-// How a read ended that met the end of the input after so many bytes.
-fn ended(filled: usize) -> Got
+/// How a read ended that met the end of the input after so many bytes.
+pub fn ended(filled: usize) -> Got
     ensures value { result ≡ got_behind filled Got.End }
     ensures count { count_in result ≤ filled }
 {
@@ -104,12 +104,14 @@ pub fn set_palettes(slices: &mut [FrameSlice], palette: &[u8])
     }
 }
 
-/// Reads the planes of the source, plane after plane.
+/// Reads the first planes of the source, plane after plane.
 pub fn read_planes<In: Source>(
     slices: &mut [FrameSlice],
     whole: &Place,
+    count: u8,
     input: &mut In,
 ) -> Result<Got, Failed>
+    requires count { count ≤ 4 }
     requires few { length slices.old ≤ 16384 }
     requires places { map place_of slices.old
         ≡ places_from whole.now.source whole.now.target whole.now.width 0 (map rows_of slices.old) }
@@ -118,12 +120,13 @@ pub fn read_planes<In: Source>(
     requires width { whole.now.width ≤ 16384 }
     requires some { 0 < whole.now.rows }
     requires rows { whole.now.rows ≤ 16384 }
-    ensures read { Reads (In.shown input.old) (In.shown input.new) result (planes_in 4 slices.new) }
+    ensures read { Reads (In.shown input.old) (In.shown input.new) result
+        (planes_in count slices.new) }
     ensures small { IfOk result (λ got. count_in got ≤ 2 ^ 52) }
     ensures behind { map behind_of slices.new ≡ map behind_of slices.old }
     ensures places { map place_of slices.new ≡ map place_of slices.old }
 {
-    for plane in 0..4 {
+    for plane in 0..count {
         let filled = plane_at(&whole.source, whole.width, whole.rows, plane);
         match read_plane(slices, plane, input) {
             Ok(Got::Whole) => {}
@@ -162,17 +165,16 @@ fn read_bytes<In: Source>(
     requires places { map place_of slices.old
         ≡ places_from whole.now.source whole.now.target whole.now.width 0 (map rows_of slices.old) }
     requires covers { sum (map rows_of slices.old) ≡ whole.now.rows }
-    requires behind { HaveOnePalette slices.old }
     requires source { IsValid whole.now.source }
     requires width { whole.now.width ≤ 16384 }
     requires some { 0 < whole.now.rows }
     requires rows { whole.now.rows ≤ 16384 }
     ensures read { Reads (In.shown input.old) (In.shown input.new) result
         (planes_in 4 slices.new ++ behind_in slices.new) }
-    ensures behind { HaveOnePalette slices.new }
+    ensures behind { IfWhole result (HaveOnePalette slices.new) }
     ensures places { map place_of slices.new ≡ map place_of slices.old }
 {
-    match read_planes(slices, whole, input) {
+    match read_planes(slices, whole, 4, input) {
         Ok(Got::Whole) => {}
         Ok(Got::End) => return Ok(Got::End),
         Ok(Got::Short(n)) => return Ok(Got::Short(n)),
@@ -190,8 +192,8 @@ fn read_bytes<In: Source>(
     }
 }
 
-/// Reads a frame: the planes of the source, and its palette where it has one.
-pub fn read_frame<In: Source>(
+// Reads a frame: the planes of the source, and its palette where it has one.
+fn read_frame<In: Source>(
     slices: &mut [FrameSlice],
     whole: &Place,
     input: &mut In,
@@ -201,19 +203,107 @@ pub fn read_frame<In: Source>(
     requires places { map place_of slices.old
         ≡ places_from whole.now.source whole.now.target whole.now.width 0 (map rows_of slices.old) }
     requires covers { sum (map rows_of slices.old) ≡ whole.now.rows }
-    requires behind { HaveOnePalette slices.old }
     requires source { IsValid whole.now.source }
     requires width { whole.now.width ≤ 16384 }
     requires some { 0 < whole.now.rows }
     requires rows { whole.now.rows ≤ 16384 }
     ensures read { Reads (In.shown input.old) (In.shown input.new) result
         (source_in whole.now slices.new) }
-    ensures slices { slices_of whole.now.source whole.now.width whole.now.rows
-        (source_in whole.now slices.new) 0 (map rows_of slices.new) ≡ map input_of slices.new }
-    ensures size { length (source_in whole.now slices.new)
-        ≡ frame_length whole.now.source whole.now.width whole.now.rows }
-    ensures behind { HaveOnePalette slices.new }
+    ensures behind { IfWhole result (HaveOnePalette slices.new) }
     ensures places { map place_of slices.new ≡ map place_of slices.old }
 {
     read_bytes(slices, whole, input)
+}
+
+// Whether no slice has rows of a plane.
+fn is_bare(slices: &[FrameSlice], plane: u8) -> bool
+    requires { plane < 4 }
+    ensures { result ≡ true → All (λ slice. length (plane_of plane slice) ≡ 0) slices.now }
+{
+    for k in 0..slices.len() {
+        if slices[k].plane_len(plane) != 0 {
+            return false;
+        }
+    }
+    true
+}
+
+// The last plane of which slices have rows.
+fn last_plane(slices: &[FrameSlice]) -> u8
+    ensures plane { result < 4 }
+    ensures last { (q : ℕ) → result < q → q < 4
+        → All (λ slice. length (plane_of q slice) ≡ 0) slices.now }
+{
+    if !is_bare(slices, 3) {
+        return 3;
+    }
+    if !is_bare(slices, 2) {
+        return 2;
+    }
+    if !is_bare(slices, 1) {
+        return 1;
+    }
+    0
+}
+
+/// What is read of each slice last, while others are converted: the rows of the last plane, or
+/// nothing where a palette stands behind the planes, which each slice needs.
+pub fn last_part(slices: &[FrameSlice], whole: &Place) -> Option<u8>
+    requires places { map place_of slices.now
+        ≡ places_from whole.now.source whole.now.target whole.now.width 0 (map rows_of slices.now) }
+    ensures part { IsPart result }
+    ensures bare { IfSome result (λ _. whole.now.source.palette ≡ false) }
+    ensures splits { (all : List FrameSlice) → map place_of all ≡ map place_of slices.now
+        → source_in whole.now all ≡ front_in whole.now result all ++ part_in result all }
+{
+    if whole.source.palette {
+        return None;
+    }
+    Some(last_plane(slices))
+}
+
+/// How many bytes of a frame are read before the part.
+pub fn front_len(whole: &Place, part: Option<u8>) -> usize
+    requires part { IsPart part }
+    requires source { IsValid whole.now.source }
+    requires width { whole.now.width ≤ 16384 }
+    requires some { 0 < whole.now.rows }
+    requires rows { whole.now.rows ≤ 16384 }
+    ensures value { (all : List FrameSlice) → AreOfFrame whole.now all
+        → result ≡ length (front_in whole.now part all) }
+    ensures small { result ≤ 2 ^ 34 }
+{
+    match part {
+        Some(plane) => plane_at(&whole.source, whole.width, whole.rows, plane),
+        None => frame_len(&whole.source, whole.width, whole.rows) as usize,
+    }
+}
+
+/// Reads what is read before the part.
+pub fn read_front<In: Source>(
+    slices: &mut [FrameSlice],
+    whole: &Place,
+    part: Option<u8>,
+    input: &mut In,
+) -> Result<Got, Failed>
+    requires part { IsPart part }
+    requires bare { IfSome part (λ _. whole.now.source.palette ≡ false) }
+    requires few { length slices.old ≤ 16384 }
+    requires filled { 0 < length slices.old }
+    requires places { map place_of slices.old
+        ≡ places_from whole.now.source whole.now.target whole.now.width 0 (map rows_of slices.old) }
+    requires covers { sum (map rows_of slices.old) ≡ whole.now.rows }
+    requires source { IsValid whole.now.source }
+    requires width { whole.now.width ≤ 16384 }
+    requires some { 0 < whole.now.rows }
+    requires rows { whole.now.rows ≤ 16384 }
+    ensures read { Reads (In.shown input.old) (In.shown input.new) result
+        (front_in whole.now part slices.new) }
+    ensures behind { IfWhole result (HaveOnePalette slices.new) }
+    ensures places { map place_of slices.new ≡ map place_of slices.old }
+{
+    match part {
+        Some(plane) => read_planes(slices, whole, plane, input),
+        None => read_frame(slices, whole, input),
+    }
 }

@@ -11,7 +11,7 @@ use Rattle.sws_words.specs.declared.task.Form.TheVariants.{Raw, Y4m}
 use Rattle.y4m_io.specs.declared.fault.StreamFault.{StreamFault}
 use Rattle.y4m_io.specs.declared.fault.StreamFault.TheVariants.{Truncated}
 use Rattle.y4m_io.specs.Lines.{is_newline}
-use Rattle.y4m_io.specs.FrameLine.{frame_line_cut}
+use Rattle.y4m_io.specs.FrameLine.{frame_line_cut, IsFrameLineFault}
 use Rattle.y4m_io.specs.declared.fault.HeaderEnd.{HeaderEnd}
 use Rattle.y4m_io.specs.declared.fault.HeaderEnd.TheVariants as header
 use Rattle.y4m_io.specs.declared.header.Header.{Header}
@@ -19,24 +19,25 @@ use Rattle.y4m_io.specs.HeaderLine.{HeaderLine, header_cut}
 use Rattle.sws_run.specs.declared.request.Input.TheVariants as input
 use Rattle.std.specs.Io.KnownBytes.{Consumes}
 use Rattle.frame_slices.specs.declared.frame_slice.Place.{Place}
-use Rattle.frame_slices.specs.declared.sliced_frame.SlicedFrame.{SlicedFrame}
+use Rattle.frame_slices.specs.declared.unfinished.Unfinished.{Unfinished}
+use Rattle.frame_slices.specs.declared.unfinished.Unfinished.TheVariants as left
+use Rattle.frame_slices.specs.Converting.{ConvertsNext, LeavesOff}
+use Rattle.frame_slices.specs.FrameSlices.{Reads}
 use Rattle.pix_desc.specs.Frame.{frame_length}
 use Rattle.pix_io.specs.Shown.{Shown}
-use Rattle.y4m_io.specs.declared.fault.LineEnd.{LineEnd}
-use Rattle.y4m_io.specs.declared.fault.LineEnd.TheVariants as line
-use Rattle.y4m_io.specs.Reading.{line_fault, line_reads, header_reads, TakesOpen, TakesFrameLine}
+use Rattle.pix_io.specs.declared.stream.Failed.{Failed}
+use Rattle.pix_io.specs.declared.transfer.Got.TheVariants as got
+use Rattle.pix_meaning.specs.declared.pair.Pair.{Pair}
+use Rattle.y4m_io.specs.Reading.{header_reads, IsNoFrameLine, TakesOpen, TakesFrameLine}
 use Rattle.y4m_io.specs.Reading as reading
 use Rattle.y4m_io.proofs.LineShapes.{frame_line_cut-size, frame_line_cut-unfinished, header_cut-size, header_cut-unfinished}
 use Rattle.sws_run.specs.Cut.{Whole, Faulty, front_cut, piece_behind, piece_cut}
 use Rattle.sws_run.specs.Frames.{IfTold, IsBehind, IsShort, IsShortOf, TakesFrame, TakesPiece, TakesHeader, TakesHeaderPart}
-use Rattle.sws_run.specs.Frames.{source_held, source_size}
+use Rattle.sws_run.specs.declared.converter.Converter.{Converter}
+use Rattle.sws_run.specs.declared.frame.FrameEnd.TheVariants as end
+use Rattle.sws_run.specs.Frames.{ConvertsFrame, IsFrameFor, LeavesFrame, size_by}
 use Rattle.sws_run.proofs.Places.{behind_then}
-use Rattle.sws_run.proofs.Told.{some_map}
-
--- the source frame that slices hold has the size of a frame
-pub held_size : (old new : SlicedFrame) → length (source_held new) ≡ source_size new → new.whole ≡ old.whole
-    → length (source_held new) ≡ source_size old
-held_size old new long same = long ∙ ap (λ (whole : Place). frame_length whole.source whole.width whole.rows) same
+use Rattle.sws_run.proofs.Told.{some_map, told_map, told_now, told_takes, told_then, takes_all}
 
 -- ---- pieces
 
@@ -184,14 +185,13 @@ pub line_told : (a b : Shown) → TakesFrameLine a b → IfTold a.bytes b.bytes 
 line_told a b = line_told_at a.bytes b.bytes
 
 -- the fault of a line is that of the frame
-pub line_piece : (a : Option (List ℕ)) (size : ℕ) (end : LineEnd)
-    → IfSome (line_fault end) (λ fault. IfSome a (λ bytes. frame_line_cut bytes ≡ Err fault))
-    → IfSome (line_fault end) (λ fault. IfSome a (λ bytes. piece_cut Y4m size bytes ≡ Faulty fault))
-line_piece a size end p =
-    some_map (line_fault end) (λ fault. IfSome a (λ bytes. frame_line_cut bytes ≡ Err fault))
-    (λ fault. IfSome a (λ bytes. piece_cut Y4m size bytes ≡ Faulty fault))
-    (λ fault q. some_map a (λ bytes. frame_line_cut bytes ≡ Err fault) (λ bytes. piece_cut Y4m size bytes ≡ Faulty fault)
-    (λ bytes. line_fault_piece size bytes fault) q) p
+pub line_faulty : (a b : Shown) (size : ℕ) (fault : StreamFault) → IsFrameLineFault fault → IsNoFrameLine a fault
+    → LeavesFrame Y4m size a b (end.Stream fault)
+line_faulty a b size fault known found = (
+  known,
+  some_map a.bytes (λ bytes. frame_line_cut bytes ≡ Err fault)
+      (λ bytes. piece_cut Y4m size bytes ≡ Faulty fault) (λ bytes. line_fault_piece size bytes fault) found,
+)
 
 open_told_at : (a b : Option (List ℕ)) (front : List ℕ) (size : ℕ) → list_any is_newline front ≡ false → Consumes a b front
     → IfTold a b (TakesPiece Y4m size)
@@ -200,10 +200,116 @@ open_told_at (Some x) None front size none p = absurd p
 open_told_at (Some x) (Some y) front size none p = subst (λ bytes. TakesPiece Y4m size bytes y) (sym p) (open_part front y size none)
 
 -- a read of the line failed
-pub open_told : (T U : Type 0) (a b : Shown) (size : ℕ) (end : LineEnd) → OnErr (line_reads {T = T} (Err end)) (TakesOpen a b)
-    → OnErr (line_reads {T = U} (Err end)) (IfTold a.bytes b.bytes (TakesPiece Y4m size))
-open_told T U a b size (line.Stream fault) p = tt
-open_told T U a b size line.ReadFault p = open_told_at a.bytes b.bytes p.0 size p.1 p.2
+pub open_told : (a b : Shown) (size : ℕ) → TakesOpen a b → LeavesFrame Y4m size a b end.ReadFault
+open_told a b size taken = open_told_at a.bytes b.bytes taken.0 size taken.1 taken.2
+
+-- ---- a frame that is read and converted
+
+-- how many bytes it has
+size_for : (converter : Converter) (pair : Pair) (whole : Place) → pair ≡ converter.pair → IsFrameFor converter whole
+    → frame_length pair.from.desc whole.width whole.rows ≡ size_by converter
+size_for converter pair whole same is = rw (same, is.width, is.height) refl
+
+module _ (converter : Converter) (pair : Pair) (whole : Place) (target : List ℕ) (same : pair ≡ converter.pair)
+    (is : IsFrameFor converter whole) where
+  converts : (form : Form) (a b c : Shown) (next : ConvertsNext pair whole.width whole.rows b c target)
+      → IfTold a.bytes c.bytes (TakesFrame form (size_by converter) next.frame) → ConvertsFrame form converter a c target
+  converts form a b c next taken =
+      record { frame = next.frame; taken = taken; converted = rw (sym same, is.width, is.height) next.converted }
+
+  pub raw_converts : (a b : Shown) → 0 < size_by converter → ConvertsNext pair whole.width whole.rows a b target
+      → ConvertsFrame Raw converter a b target
+  raw_converts a b some next =
+      let frame = next.frame in
+      let long : length frame ≡ size_by converter = next.size ∙ size_for converter pair whole same is in
+      converts Raw a a b next (told_map a.bytes b.bytes (λ x y. x ≡ frame ++ y) (TakesFrame Raw (size_by converter) frame)
+      (λ x y e. of_size Raw (size_by converter) frame x y long (raw_whole frame x y (omega (arith, long, some)) e))
+      (told_takes a b frame next.read.taken))
+
+  pub line_converts : (a b c : Shown) → IfTold a.bytes b.bytes HasLine → ConvertsNext pair whole.width whole.rows b c target
+      → ConvertsFrame Y4m converter a c target
+  line_converts a b c line next =
+      let frame = next.frame in
+      let long : length frame ≡ size_by converter = next.size ∙ size_for converter pair whole same is in
+      converts Y4m a b c next (told_then a.bytes b.bytes c.bytes HasLine (λ x y. x ≡ frame ++ y)
+      (TakesFrame Y4m (size_by converter) frame)
+      (λ x y z l e. of_size Y4m (size_by converter) frame x z long (whole_behind Y4m l.size x y z frame l.is l.behind e))
+      line (told_takes b c frame next.read.taken))
+
+-- ---- a frame that is left off
+
+-- of the size that the converter's frames have
+pub off_by : (converter : Converter) (whole : Place) (a b : Shown) (why : Unfinished) → IsFrameFor converter whole
+    → LeavesOff (frame_length whole.source whole.width whole.rows) a b why → LeavesOff (size_by converter) a b why
+off_by converter whole a b why is = subst (λ size. LeavesOff size a b why) (rw (is.source, is.width, is.height) refl)
+
+-- some bytes, fewer than so many
+abbrev IsCut : ℕ → List ℕ → Type 0
+IsCut size bytes = (0 < length bytes) × (length bytes < size)
+
+-- fewer bytes than so many were taken
+abbrev TakesFewer : ℕ → List ℕ → List ℕ → Type 0
+TakesFewer size bytes rest = (part : List ℕ) × (bytes ≡ part ++ rest) × (length part < size)
+
+nothing_left : (a b : Shown) (size : ℕ) → LeavesOff size a b left.End → IfSome a.bytes (λ bytes. bytes ≡ [])
+nothing_left a b size off =
+    let read : Reads a b (Ok got.End) off.0 = off.2 in
+    takes_all a b [] read.taken.0 read.taken.1
+
+short_left : (a b : Shown) (size n : ℕ) → LeavesOff size a b (left.Short n) → IfSome a.bytes (IsCut size)
+short_left a b size n off =
+    let frame : List ℕ = off.0 in
+    let long : length frame ≡ size = off.1 in
+    let read : Reads a b (Ok (got.Short n)) frame = off.2 in
+    let some : 0 < n = read.range.0 in
+    let small : n < length frame = read.range.1 in
+    let front : length (take n frame) ≡ n = length-take-le n frame (omega (arith, small)) in
+    some_map a.bytes (λ x. x ≡ take n frame) (IsCut size)
+    (λ x e. (omega (arith, ap length e, front, some), omega (arith, ap length e, front, small, long)))
+    (takes_all a b (take n frame) read.taken.0 read.taken.1)
+
+part_left : (a b : Shown) (size : ℕ) (failed : Failed) → LeavesOff size a b (left.Failed failed)
+    → IfTold a.bytes b.bytes (TakesFewer size)
+part_left a b size failed off =
+    let frame : List ℕ = off.0 in
+    let long : length frame ≡ size = off.1 in
+    let read : Reads a b (Err failed) frame = off.2 in
+    let n : ℕ = read.part_taken.0 in
+    let small : n < length frame = read.part_taken.1 in
+    let front : length (take n frame) ≡ n = length-take-le n frame (omega (arith, small)) in
+    told_map a.bytes b.bytes (λ x y. x ≡ take n frame ++ y) (TakesFewer size)
+    (λ x y e. (take n frame, e, omega (arith, front, small, long))) (told_takes a b (take n frame) read.part_taken.2)
+
+module _ (a b : Shown) (size : ℕ) where
+  pub raw_cut : (n : ℕ) → LeavesOff size a b (left.Short n) → LeavesFrame Raw size a b (end.Stream Truncated)
+  raw_cut n off = (
+    refl,
+    some_map a.bytes (IsCut size) (λ x. piece_cut Raw size x ≡ Faulty Truncated)
+        (λ x p. raw_short x size p.0 p.1) (short_left a b size n off),
+  )
+
+  pub raw_failed : (failed : Failed) → LeavesOff size a b (left.Failed failed) → LeavesFrame Raw size a b end.ReadFault
+  raw_failed failed off = told_map a.bytes b.bytes (TakesFewer size) (TakesPiece Raw size)
+      (λ x y p. raw_part p.0 x y (length p.0) size p.1 refl p.2) (part_left a b size failed off)
+
+module _ (a b c : Shown) (size : ℕ) (line : IfTold a.bytes b.bytes HasLine) where
+  pub line_nothing : 0 < size → LeavesOff size b c left.End → LeavesFrame Y4m size a c (end.Stream Truncated)
+  line_nothing some off = (
+    tt,
+    told_now a.bytes b.bytes HasLine (λ y. y ≡ []) (λ x. piece_cut Y4m size x ≡ Faulty Truncated)
+        (λ x y l e. short_behind Y4m l.size size x y l.is l.behind (omega (arith, ap length e, some))) line (nothing_left b c size off),
+  )
+
+  pub line_cut : (n : ℕ) → LeavesOff size b c (left.Short n) → LeavesFrame Y4m size a c (end.Stream Truncated)
+  line_cut n off = (
+    tt,
+    told_now a.bytes b.bytes HasLine (IsCut size) (λ x. piece_cut Y4m size x ≡ Faulty Truncated)
+        (λ x y l p. short_behind Y4m l.size size x y l.is l.behind p.1) line (short_left b c size n off),
+  )
+
+  pub line_failed : (failed : Failed) → LeavesOff size b c (left.Failed failed) → LeavesFrame Y4m size a c end.ReadFault
+  line_failed failed off = told_then a.bytes b.bytes c.bytes HasLine (TakesFewer size) (TakesPiece Y4m size)
+      (λ x y z l p. part_behind Y4m l.size (length p.0) x y z p.0 size l.is l.behind p.1 refl p.2) line (part_left b c size failed off)
 
 -- ---- the header of a stream
 

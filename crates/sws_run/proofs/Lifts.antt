@@ -24,7 +24,7 @@ use Rattle.sws_run.specs.declared.request.Input.{Input}
 use Rattle.sws_run.specs.declared.request.Request.{Request}
 use Rattle.sws_run.specs.declared.request.Conversion.{Conversion}
 use Rattle.sws_run.specs.declared.request.Request.TheVariants as request
-use Rattle.sws_run.specs.declared.run.Converter.{Converter}
+use Rattle.sws_run.specs.declared.converter.Converter.{Converter}
 use Rattle.sws_run.specs.Request.{form_of}
 use Rattle.sws_run.specs.Cut.{Cut, Frame, Frames, End, Broken, cut, cut_after, cut_behind, header_line_cut}
 use Rattle.sws_run.specs.Cut.{source_length, frames_cut, most_frames, frames_within, whole_within}

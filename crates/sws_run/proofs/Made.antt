@@ -6,18 +6,13 @@ use native.Mathlib.Nat.{mul-le-mul_right}
 use Rattle.std.specs.Prelude.{sum}
 use Rattle.std.proofs.lemmas.List.{drop-drop, length-drop}
 use Rattle.std.proofs.lemmas.List.Sums.{sum_by-append}
-use Rattle.frame_slices.specs.declared.frame_slice.Place.{Place}
-use Rattle.frame_slices.specs.declared.sliced_frame.SlicedFrame.{SlicedFrame}
 use Rattle.frame_slices.specs.Generated.{generated}
 use Rattle.pix_desc.specs.Frame.{frame_length}
 use Rattle.pix_desc.proofs.FrameExists.{frame_length_is, length-frame_of}
 use Rattle.pix_meaning.specs.declared.pair.Pair.{Pair}
 use Rattle.pix_meaning.specs.Target.{target_frame, target_rows}
 use Rattle.sws_run.specs.declared.request.Making.{Making}
-use Rattle.sws_run.specs.Frames.{source_size}
-use Rattle.sws_run.specs.Request.{IsSoundMaking}
-use Rattle.sws_run.specs.Report.{IsFrameMade, made_frame, made_length, made_targets}
-use Rattle.sws_run.proofs.Opened.{frame-some, table_valid}
+use Rattle.sws_run.specs.Report.{made_frame, made_length, made_targets}
 
 -- the frame that stands in front of what is left of all bytes
 pub frame_in_front : (n k : ℕ) (all here frame rest : List ℕ) → here ≡ drop (k * n) all → here ≡ frame ++ rest → length frame ≡ n
@@ -49,21 +44,6 @@ start_made making state left frames count seed is four long =
 pub no_sum : (making : Making) → 0 ≡ sum (made_targets making 0)
 unfolding made_targets
 no_sum making = refl
-
-pub made_some : (making : Making) → IsSoundMaking making → 0 < made_length making.pair
-made_some making sound =
-    frame-some making.pair.from.desc 512 512 (table_valid making.pair.from sound.pair.from) (omega arith) (omega arith)
-
--- the slices of a frame that is made
-pub made_by : (making : Making) (frame : SlicedFrame) → IsFrameMade making frame.whole → source_size frame ≡ made_length making.pair
-made_by making frame is = rw (is.source, is.width, is.height) refl
-
--- what it is converted to
-pub made_target : (making : Making) (pair : Pair) (whole : Place) (frame target : List ℕ) → pair ≡ making.pair → IsFrameMade making whole
-    → target ≡ target_frame pair whole.width whole.rows frame → target ≡ target_frame making.pair 512 512 frame
-made_target making pair whole frame target same is made =
-    made ∙ ap (λ (p : Pair). target_frame p whole.width whole.rows frame) same
-    ∙ ap₂ (λ w h. target_frame making.pair w h frame) is.width is.height
 
 pub next_sum : (making : Making) (k : ℕ) (frame target : List ℕ) → frame ≡ made_frame making k
     → target ≡ target_frame making.pair 512 512 frame

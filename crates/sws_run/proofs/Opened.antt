@@ -1,5 +1,5 @@
 -- What is made for a stream, once its header is known.
-use Rattle.std.proofs.Common.{◌≡◌, ℕ, ◌*◌, ◌<◌, refl, sym, subst, arith}
+use Rattle.std.proofs.Common.{◌≡◌, ℕ, ◌*◌, ◌<◌, refl, arith}
 use Rattle.std.proofs.Math.Nat.{mul-pos}
 use Rattle.std.specs.Option.{option_or}
 use Rattle.std.specs.declared.option.Option.{Option}
@@ -15,12 +15,11 @@ use Rattle.colour_matrix.specs.declared.matrix.Matrix.{Matrix}
 use Rattle.desc_table.specs.Format.{desc_of, format_count}
 use Rattle.desc_table.proofs.Rows.{valid_at}
 use Rattle.pix_meaning.specs.declared.pair.Pair.{Pair}
-use Rattle.pix_meaning.specs.declared.pair.Side.{Side}
 use Rattle.row_plan.specs.Evaluated.{IsPlannable, IsTableSide}
 use Rattle.row_plan.proofs.Evaluated.{table_pairs_have_plans}
 use Rattle.y4m_io.specs.declared.header.Header.{Header}
 use Rattle.sws_run.specs.declared.request.Conversion.{Conversion}
-use Rattle.sws_run.specs.declared.run.Converter.{Converter}
+use Rattle.sws_run.specs.declared.converter.Converter.{Converter}
 use Rattle.sws_words.specs.Task.{HasName}
 use Rattle.sws_run.specs.Request.{IsSoundConversion, IsTablePair}
 use Rattle.sws_run.specs.Cut.{source_length}
@@ -28,7 +27,7 @@ use Rattle.sws_run.specs.Sides.{pair_of, side_with}
 use Rattle.sws_run.specs.Frames.{IsConverterOf, IsSoundOpening, size_by}
 
 -- a raw frame of some pixels has some bytes
-pub frame-some : (desc : Desc) (width height : ℕ) → IsValid desc → 0 < width → 0 < height → 0 < frame_length desc width height
+frame-some : (desc : Desc) (width height : ℕ) → IsValid desc → 0 < width → 0 < height → 0 < frame_length desc width height
 frame-some desc width height valid wide high =
     let laid = laid_out desc valid in
     let c = component_of desc 0 in
@@ -49,9 +48,6 @@ pub table_side : (id : ℕ) (matrix : Matrix) (range : Option Range) → id < fo
     → IsTableSide (side_with id matrix range)
 table_side id matrix range known named =
     record { id = id; known = known; desc = refl; matrix = record { name = named.0; found = named.1 } }
-
-pub table_valid : (side : Side) → IsTableSide side → IsValid side.desc
-table_valid side table = subst IsValid (sym table.desc) (valid_at table.id table.known)
 
 pub pair_is_of_table : (conversion : Conversion) (header : Header) → IsSoundConversion conversion → IsSoundOpening header
     → IsTablePair (pair_of conversion header)

@@ -1,5 +1,5 @@
 -- The run over the frames of an input, at each of its exits.
-use Rattle.std.proofs.Common.{◌≡◌, ℕ, ◌+◌, ◌<◌, ◌≤◌, List, [], ◌++◌, length, refl, sym, ap, ◌∙◌, arith, subst, map}
+use Rattle.std.proofs.Common.{◌≡◌, ℕ, ◌+◌, ◌<◌, ◌≤◌, List, [], ◌++◌, length, sym, ap, ◌∙◌, arith, subst, map}
 use Rattle.std.proofs.Common.{take, IfSome}
 use Rattle.std.proofs.lemmas.List.{drop-map, length-map}
 use Rattle.std.proofs.Math.Seq.{take-length}
@@ -8,17 +8,13 @@ use Rattle.std.specs.declared.option.Option.{Option}
 use Rattle.pix_io.specs.Shown.{Shown}
 use Rattle.pix_io.specs.Streams.{Writes, WritesPart}
 use Rattle.pix_io.proofs.Calls.{Writes-trans, Writes-nil}
-use Rattle.frame_slices.specs.declared.frame_slice.Place.{Place}
-use Rattle.frame_slices.specs.declared.sliced_frame.SlicedFrame.{SlicedFrame}
-use Rattle.pix_meaning.specs.declared.pair.Pair.{Pair}
 use Rattle.pix_meaning.specs.Target.{target_frame}
 use Rattle.y4m_io.specs.declared.fault.StreamFault.{StreamFault}
-use Rattle.sws_run.specs.declared.run.Converter.{Converter}
+use Rattle.sws_run.specs.declared.converter.Converter.{Converter}
 use Rattle.sws_run.specs.Cut.{Frame, Frames, End, Clean, Broken, Faulty, piece_cut, last_end, most_frames}
 use Rattle.sws_run.specs.Cut.{whole_within}
 use Rattle.sws_run.specs.Output.{ending_at, front_in}
-use Rattle.sws_run.specs.Frames.{IfTold, IsBehind, IsFrameFor, TakesFrame, TakesPiece, text_by, frames_by, texts_by}
-use Rattle.sws_run.specs.Frames.{size_by, source_size}
+use Rattle.sws_run.specs.Frames.{IfTold, IsBehind, TakesFrame, TakesPiece, text_by, frames_by, texts_by}
 use Rattle.sws_run.proofs.Told.{some_map, some_map2, some_always, told_then, told_now, told_same, told_with, told_old}
 use Rattle.sws_run.proofs.Parts.{StandsAt, stands_at, concat-next, ends_in}
 use Rattle.sws_run.proofs.Places.{IsAt, at_start, at_frame, at_next, at_nothing, at_faulty, at_last, at_part, at_million, behind_then}
@@ -161,15 +157,6 @@ stops_for_memory converter size k a b sink sink' at wrote =
     wrote
 
 -- ---- a frame more
-
--- the slices of a frame that the converter converts
-pub held_by : (converter : Converter) (frame : SlicedFrame) → IsFrameFor converter frame.whole → source_size frame ≡ size_by converter
-held_by converter frame is = rw (is.source, is.width, is.height) refl
-
-pub converted_by : (converter : Converter) (pair : Pair) (whole : Place) (frame target : List ℕ) → pair ≡ converter.pair
-    → IsFrameFor converter whole → target ≡ target_frame pair whole.width whole.rows frame
-    → target ≡ target_frame converter.pair converter.width converter.height frame
-converted_by converter pair whole frame target of_pair is same = rw (sym of_pair, is.width, is.height) same
 
 pub text_is : (converter : Converter) (frame target : List ℕ) → target
     ≡ target_frame converter.pair converter.width converter.height frame

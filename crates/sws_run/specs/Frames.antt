@@ -10,7 +10,7 @@ use Rattle.pix_meaning.specs.Target.{target_frame}
 use Rattle.desc_table.specs.Format.{format_count}
 use Rattle.frame_slices.specs.declared.frame_slice.Place.{Place}
 use Rattle.frame_slices.specs.declared.sliced_frame.SlicedFrame.{SlicedFrame}
-use Rattle.frame_slices.specs.FrameSlices.{source_in, target_in}
+use Rattle.frame_slices.specs.FrameSlices.{target_in}
 use Rattle.sws_words.specs.declared.task.Form.{Form}
 use Rattle.sws_words.specs.Task.{IsFrame}
 use Rattle.y4m_io.specs.declared.fault.StreamFault.{StreamFault}
@@ -20,16 +20,16 @@ use Rattle.y4m_io.specs.declared.header.Header.{Header}
 use Rattle.y4m_io.specs.HeaderLine.{HeaderLine}
 use Rattle.sws_run.specs.declared.ended.Ended.{Ended}
 use Rattle.sws_run.specs.declared.ended.Ended.TheVariants.{Stream, ReadFault, OutOfMemory}
-use Rattle.sws_run.specs.declared.frame.Next.{Next}
-use Rattle.sws_run.specs.declared.frame.Next.TheVariants as next
+use Rattle.sws_run.specs.declared.frame.FrameEnd.{FrameEnd}
+use Rattle.sws_run.specs.declared.frame.FrameEnd.TheVariants as end
 use Rattle.sws_run.specs.declared.request.Input.{Input}
 use Rattle.sws_run.specs.declared.request.Conversion.{Conversion}
-use Rattle.sws_run.specs.declared.run.Converter.{Converter}
+use Rattle.sws_run.specs.declared.converter.Converter.{Converter}
 use Rattle.sws_run.specs.Request.{form_of}
 use Rattle.sws_run.specs.Sides.{pair_of}
 use Rattle.sws_run.specs.Cut.{Frames, Piece, Nothing, Whole, Faulty, End, Clean, TooMany, header_line_cut, piece_cut, frames_cut}
 use Rattle.sws_run.specs.Cut.{most_frames, whole_within}
-use Rattle.sws_run.specs.Ending.{IsDecided, CanEnd, IfDone, IfOutOfMemory, IfReadFault, IfWriteFault}
+use Rattle.sws_run.specs.Ending.{IsDecided, CanEnd, IfDone, IfOutOfMemory, IfReadFault, IfWriteFault, IsFrameFault}
 use Rattle.sws_run.specs.Output.{ending_at, front_in}
 
 -- a fact of the bytes left before and after, where they are told
@@ -38,15 +38,9 @@ IfTold None left P = Unit {0}
 IfTold (Some bytes) None P = ⊥
 IfTold (Some bytes) (Some rest) P = P bytes rest
 
--- the source frame that slices hold, the target frame, and how many bytes a source frame has
-abbrev pub source_held : SlicedFrame → List ℕ
-source_held frame = source_in frame.whole frame.slices.items
-
+-- the target frame that slices hold
 abbrev pub target_held : SlicedFrame → List ℕ
 target_held frame = target_in frame.whole frame.slices.items
-
-abbrev pub source_size : SlicedFrame → ℕ
-source_size frame = frame_length frame.whole.source frame.whole.width frame.whole.rows
 
 -- n bytes were taken from the front
 pub record IsBehind (n : ℕ) (bytes rest : List ℕ) : Type 0 where
@@ -69,11 +63,6 @@ IsShort n (Faulty fault) = Unit {0}
 -- fewer bytes were taken than the frame's text has that stands there
 abbrev pub TakesPiece : Form → ℕ → List ℕ → List ℕ → Type 0
 TakesPiece form size bytes rest = (n : ℕ) × IsBehind n bytes rest × IsShort n (piece_cut form size bytes)
-
--- what stood where a frame may begin: a frame, which was taken, or the end of the input
-abbrev pub ReadsNext : Form → Shown → Shown → ℕ → List ℕ → Next → Type 0
-ReadsNext form old new size frame next.Frame = IfTold old.bytes new.bytes (TakesFrame form size frame)
-ReadsNext form old new size frame next.End = IfSome old.bytes (λ bytes. bytes ≡ []) × HasEnded new
 
 -- whether the bytes are at their end
 abbrev pub end_if : Bool → End
@@ -125,6 +114,31 @@ pub record IsFrameFor (converter : Converter) (whole : Place) : Type 0 where
 -- how many bytes a source frame has
 abbrev pub size_by : Converter → ℕ
 size_by converter = frame_length converter.pair.from.desc converter.width converter.height
+
+-- ---- one frame, converted
+
+-- the next frame was taken, and it is converted to these bytes
+pub record ConvertsFrame (form : Form) (converter : Converter) (old new : Shown) (target : List ℕ) : Type 0 where
+  pub frame : List ℕ
+  pub taken : IfTold old.bytes new.bytes (TakesFrame form (size_by converter) frame)
+  pub converted : target ≡ target_frame converter.pair converter.width converter.height frame
+
+-- What stood where no frame was converted: nothing, at the end of the input; a fault, which is one of its form; or a frame of which, at a
+-- read fault, fewer bytes were taken than its text has. At want of memory nothing is said of it.
+abbrev pub LeavesFrame : Form → ℕ → Shown → Shown → FrameEnd → Type 0
+LeavesFrame form size old new end.Nothing = IfSome old.bytes (λ bytes. bytes ≡ []) × HasEnded new
+LeavesFrame form size old new (end.Stream fault) =
+    IsFrameFault form fault × IfSome old.bytes (λ bytes. piece_cut form size bytes ≡ Faulty fault)
+LeavesFrame form size old new end.ReadFault = IfTold old.bytes new.bytes (TakesPiece form size)
+LeavesFrame form size old new end.OutOfMemory = Unit {0}
+
+-- whether every read of the call went well
+abbrev pub frame_reads : {T : Type 0} → Result T FrameEnd → Result (Unit {0}) (Unit {0})
+frame_reads (Ok value) = Ok tt
+frame_reads (Err end.Nothing) = Ok tt
+frame_reads (Err (end.Stream fault)) = Ok tt
+frame_reads (Err end.ReadFault) = Err tt
+frame_reads (Err end.OutOfMemory) = Ok tt
 
 -- ---- all frames
 

@@ -30,6 +30,13 @@ pub record IsFrameMade (making : Making) (whole : Place) : Type 0 where
   pub width : whole.width ≡ 512
   pub height : whole.rows ≡ 512
 
+-- the next frame that is made stood in front, and it is converted to these bytes
+pub record ConvertsMade (making : Making) (bytes rest target : List ℕ) : Type 0 where
+  pub frame : List ℕ
+  pub front : bytes ≡ frame ++ rest
+  pub size : length frame ≡ made_length making.pair
+  pub converted : target ≡ target_frame making.pair 512 512 frame
+
 -- the target frames of the first k
 unfoldable pub made_targets : Making → ℕ → List ℕ
 made_targets making zero = []

@@ -8,10 +8,11 @@ ghost use Rattle.sws_run.specs.Run.{GivesAnswer, GivesReadFault, GivesWriteFault
 ghost use Rattle.sws_run.specs.Run.{IsComplete};
 
 use crate::Ended;
+use crate::converter::Converter;
 use crate::opening::{input_header, output_header};
 use crate::planning::look_up;
 use crate::request::{Conversion, Input, Request};
-use crate::run::{Converter, convert_frames};
+use crate::run::convert_frames;
 use crate::sides::pair_of;
 use desc_table::desc;
 use frac_math::OutOfMemory;
@@ -19,6 +20,7 @@ use frame_slices::{Gate, SlicedFrame};
 use list_cache::ListCache;
 use pix_io::{Sink, Source, write_all};
 use std::alloc::Global;
+use std::sync::Wait;
 use std::thread::Threads;
 use sws_words::Form;
 use y4m_io::{Header, HeaderEnd};
@@ -91,7 +93,7 @@ fn ended_by(end: HeaderEnd) -> Ended
 
 /// Converts a stream: reads the header of the input, writes that of the output, and then converts
 /// frame after frame.
-pub fn convert<R: Threads + Sync, In: Source, Out: Sink, G: Gate>(
+pub fn convert<R: Threads + Wait + Sync, In: Source, Out: Sink, G: Gate>(
     rt: &R,
     alloc: Global,
     conversion: &Conversion,

@@ -1,104 +1,126 @@
-// A frame of the input, read, and a frame of the output, written.
-ghost use Rattle.std.specs.Prelude.{◌≡◌, ◌<◌, ◌++◌, length, IsTrue, IfOk, IfErr, IfSome, OnOk};
-ghost use Rattle.std.specs.Prelude.{OnErr};
+// A frame of the input, read and converted, and a frame of the output, written.
+ghost use Rattle.std.specs.Prelude.{◌≡◌, ◌<◌, ◌++◌, IsTrue, IfOk, IfErr, IfSome, OnOk, OnErr};
 ghost use Rattle.pix_io.specs.Faults.{HasCause};
 ghost use Rattle.pix_io.specs.Streams.{Writes, WritesPart, HasEnded};
-ghost use Rattle.y4m_io.specs.Reading.{line_fault, line_reads};
-ghost use Rattle.sws_run.specs.Cut.{piece_cut, Faulty, last_end};
-ghost use Rattle.sws_run.specs.Ending.{IsFrameFault};
+ghost use Rattle.sws_run.specs.Cut.{last_end};
 ghost use Rattle.sws_run.specs.Output.{front_in};
-ghost use Rattle.sws_run.specs.Frames.{IfTold, TakesPiece, ReadsNext, end_if};
-ghost use Rattle.sws_run.specs.Frames.{source_held, source_size, target_held};
+ghost use Rattle.sws_run.specs.Frames.{IfTold, IsFrameFor, ConvertsFrame, LeavesFrame, frame_reads};
+ghost use Rattle.sws_run.specs.Frames.{size_by, target_held, end_if};
 
-use frame_slices::SlicedFrame;
+use crate::converter::Converter;
+use frame_slices::{Gate, SlicedFrame, Unfinished};
 use pix_io::{Failed, Got, Sink, Source, read_whole, write_all};
+use row_plan::Plan;
+use std::alloc::Global;
+use std::sync::Wait;
+use std::thread::Threads;
 use sws_words::Form;
 use y4m_io::{FrameLine, LineEnd, StreamFault, read_frame_line};
 
-/// What stands where a frame may begin.
+/// Why no frame of the input was converted.
 #[derive(Clone, Copy, Debug, PartialEq, Eq)]
-pub enum Next {
-    /// A frame.
-    Frame,
-    /// The end of the input.
-    End,
+pub enum FrameEnd {
+    /// The input was at its end.
+    Nothing,
+    /// The input is faulty where a frame may begin.
+    Stream(StreamFault),
+    /// A read failed.
+    ReadFault,
+    /// Memory was refused.
+    OutOfMemory,
 }
 
-// Reads a raw frame, or finds the input at its end.
-fn read_raw_frame<In: Source>(input: &mut In, frame: &mut SlicedFrame) -> Result<Next, LineEnd>
-    requires { 0 < source_size frame.old }
-    ensures next { IfOk result (ReadsNext Form.Raw (In.shown input.old)
-        (In.shown input.new) (source_size frame.old) (source_held frame.new)) }
-    ensures fault { IfErr result (λ end. IfSome (line_fault end)
-        (λ fault. IfSome (In.shown input.old).bytes (λ bytes.
-        piece_cut Form.Raw (source_size frame.old) bytes ≡ Faulty fault))) }
-    ensures known { IfErr result (λ end. IfSome (line_fault end) (IsFrameFault Form.Raw)) }
-    ensures read_fault { OnErr (line_reads result)
-        (IfTold (In.shown input.old).bytes (In.shown input.new).bytes
-        (TakesPiece Form.Raw (source_size frame.old))) }
-    ensures cause { HasCause (In.shown input.old) (In.shown input.new) (line_reads result) }
-    ensures whole { frame.new.whole ≡ frame.old.whole }
+// Reads a raw frame and converts it.
+fn convert_raw_frame<R: Threads + Wait + Sync, In: Source, G: Gate>(
+    rt: &R,
+    alloc: Global,
+    converter: &Converter,
+    plan: &Plan,
+    input: &mut In,
+    frame: SlicedFrame,
+    gate: &G,
+) -> Result<SlicedFrame, FrameEnd>
+    requires some { 0 < size_by converter.now }
+    requires plan { plan.now.pair ≡ converter.now.pair }
+    requires frame { IsFrameFor converter.now frame.whole }
+    requires workers { 0 < converter.now.workers }
+    ensures converted { IfOk result (λ frame. ConvertsFrame Form.Raw converter.now
+        (In.shown input.old) (In.shown input.new) (target_held frame)) }
+    ensures left { IfErr result (LeavesFrame Form.Raw (size_by converter.now)
+        (In.shown input.old) (In.shown input.new)) }
+    ensures cause { HasCause (In.shown input.old) (In.shown input.new) (frame_reads result) }
+    ensures whole { IfOk result (λ frame. IsFrameFor converter.now frame.whole) }
 {
-    match frame.read(input) {
-        Ok(Got::Whole) => Ok(Next::Frame),
-        Ok(Got::End) => Ok(Next::End),
-        Ok(Got::Short(_)) => Err(LineEnd::Stream(StreamFault::Truncated)),
-        Err(_) => Err(LineEnd::ReadFault),
+    match frame.convert_next(rt, alloc, plan, converter.workers, gate, input) {
+        Ok(converted) => Ok(converted),
+        Err(Unfinished::End) => Err(FrameEnd::Nothing),
+        Err(Unfinished::Short(_)) => Err(FrameEnd::Stream(StreamFault::Truncated)),
+        Err(Unfinished::Failed(_)) => Err(FrameEnd::ReadFault),
+        Err(Unfinished::OutOfMemory) => Err(FrameEnd::OutOfMemory),
     }
 }
 
-// Reads a frame with its line, or finds the input at its end.
-fn read_stream_frame<In: Source>(input: &mut In, frame: &mut SlicedFrame) -> Result<Next, LineEnd>
-    requires { 0 < source_size frame.old }
-    ensures next { IfOk result (ReadsNext Form.Y4m (In.shown input.old)
-        (In.shown input.new) (source_size frame.old) (source_held frame.new)) }
-    ensures fault { IfErr result (λ end. IfSome (line_fault end)
-        (λ fault. IfSome (In.shown input.old).bytes (λ bytes.
-        piece_cut Form.Y4m (source_size frame.old) bytes ≡ Faulty fault))) }
-    ensures known { IfErr result (λ end. IfSome (line_fault end) (IsFrameFault Form.Y4m)) }
-    ensures read_fault { OnErr (line_reads result)
-        (IfTold (In.shown input.old).bytes (In.shown input.new).bytes
-        (TakesPiece Form.Y4m (source_size frame.old))) }
-    ensures cause { HasCause (In.shown input.old) (In.shown input.new) (line_reads result) }
-    ensures whole { frame.new.whole ≡ frame.old.whole }
+// Reads a frame behind its line and converts it.
+fn convert_stream_frame<R: Threads + Wait + Sync, In: Source, G: Gate>(
+    rt: &R,
+    alloc: Global,
+    converter: &Converter,
+    plan: &Plan,
+    input: &mut In,
+    frame: SlicedFrame,
+    gate: &G,
+) -> Result<SlicedFrame, FrameEnd>
+    requires some { 0 < size_by converter.now }
+    requires plan { plan.now.pair ≡ converter.now.pair }
+    requires frame { IsFrameFor converter.now frame.whole }
+    requires workers { 0 < converter.now.workers }
+    ensures converted { IfOk result (λ frame. ConvertsFrame Form.Y4m converter.now
+        (In.shown input.old) (In.shown input.new) (target_held frame)) }
+    ensures left { IfErr result (LeavesFrame Form.Y4m (size_by converter.now)
+        (In.shown input.old) (In.shown input.new)) }
+    ensures cause { HasCause (In.shown input.old) (In.shown input.new) (frame_reads result) }
+    ensures whole { IfOk result (λ frame. IsFrameFor converter.now frame.whole) }
 {
     match read_frame_line(input) {
         Ok(FrameLine::Frame) => {}
-        Ok(FrameLine::End) => return Ok(Next::End),
-        Err(end) => return Err(end),
+        Ok(FrameLine::End) => return Err(FrameEnd::Nothing),
+        Err(LineEnd::Stream(fault)) => return Err(FrameEnd::Stream(fault)),
+        Err(LineEnd::ReadFault) => return Err(FrameEnd::ReadFault),
     }
-    match frame.read(input) {
-        Ok(Got::Whole) => Ok(Next::Frame),
-        Ok(Got::End) => Err(LineEnd::Stream(StreamFault::Truncated)),
-        Ok(Got::Short(_)) => Err(LineEnd::Stream(StreamFault::Truncated)),
-        Err(_) => Err(LineEnd::ReadFault),
+    match frame.convert_next(rt, alloc, plan, converter.workers, gate, input) {
+        Ok(converted) => Ok(converted),
+        Err(Unfinished::End) => Err(FrameEnd::Stream(StreamFault::Truncated)),
+        Err(Unfinished::Short(_)) => Err(FrameEnd::Stream(StreamFault::Truncated)),
+        Err(Unfinished::Failed(_)) => Err(FrameEnd::ReadFault),
+        Err(Unfinished::OutOfMemory) => Err(FrameEnd::OutOfMemory),
     }
 }
 
-/// Reads the next frame of an input of this form, whose bytes the slices then hold, or finds the
-/// input at its end.
-pub fn read_frame<In: Source>(
-    form: Form,
+/// Reads the next frame of the input, behind its line where the form has one, and converts it: the
+/// slices then hold its target frame. Where it gives none, the slices are dropped.
+pub fn convert_frame<R: Threads + Wait + Sync, In: Source, G: Gate>(
+    rt: &R,
+    alloc: Global,
+    converter: &Converter,
+    plan: &Plan,
     input: &mut In,
-    frame: &mut SlicedFrame,
-) -> Result<Next, LineEnd>
-    requires { 0 < source_size frame.old }
-    ensures next { IfOk result
-        (ReadsNext form (In.shown input.old) (In.shown input.new)
-        (source_size frame.old) (source_held frame.new)) }
-    ensures fault { IfErr result (λ end. IfSome (line_fault end)
-        (λ fault. IfSome (In.shown input.old).bytes (λ bytes.
-        piece_cut form (source_size frame.old) bytes ≡ Faulty fault))) }
-    ensures known { IfErr result (λ end. IfSome (line_fault end) (IsFrameFault form)) }
-    ensures read_fault { OnErr (line_reads result)
-        (IfTold (In.shown input.old).bytes (In.shown input.new).bytes
-        (TakesPiece form (source_size frame.old))) }
-    ensures cause { HasCause (In.shown input.old) (In.shown input.new) (line_reads result) }
-    ensures whole { frame.new.whole ≡ frame.old.whole }
+    frame: SlicedFrame,
+    gate: &G,
+) -> Result<SlicedFrame, FrameEnd>
+    requires some { 0 < size_by converter.now }
+    requires plan { plan.now.pair ≡ converter.now.pair }
+    requires frame { IsFrameFor converter.now frame.whole }
+    requires workers { 0 < converter.now.workers }
+    ensures converted { IfOk result (λ frame. ConvertsFrame converter.now.source_form converter.now
+        (In.shown input.old) (In.shown input.new) (target_held frame)) }
+    ensures left { IfErr result (LeavesFrame converter.now.source_form (size_by converter.now)
+        (In.shown input.old) (In.shown input.new)) }
+    ensures cause { HasCause (In.shown input.old) (In.shown input.new) (frame_reads result) }
+    ensures whole { IfOk result (λ frame. IsFrameFor converter.now frame.whole) }
 {
-    match form {
-        Form::Raw => read_raw_frame(input, frame),
-        Form::Y4m => read_stream_frame(input, frame),
+    match converter.source_form {
+        Form::Raw => convert_raw_frame(rt, alloc, converter, plan, input, frame, gate),
+        Form::Y4m => convert_stream_frame(rt, alloc, converter, plan, input, frame, gate),
     }
 }
 

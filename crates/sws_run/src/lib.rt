@@ -2,6 +2,7 @@
 #![tactic(auto)]
 
 mod convert;
+mod converter;
 mod ended;
 mod format_list;
 mod frame;

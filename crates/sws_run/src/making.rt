@@ -1,19 +1,21 @@
 // Frames that are made from a seed, converted and summed.
-ghost use Rattle.std.specs.Prelude.{◌≡◌, ◌++◌, ◌<◌, ◌≤◌, length, sum, IfOk, string_bytes};
+ghost use Rattle.std.specs.Prelude.{◌≡◌, ◌≤◌, length, sum, IfOk, string_bytes};
 ghost use Rattle.frame_slices.specs.Generated.{generated};
-ghost use Rattle.sws_run.specs.Frames.{source_held, source_size};
-ghost use Rattle.sws_run.specs.Report.{IsFrameMade, made_targets, sum_lines};
+ghost use Rattle.sws_run.specs.Frames.{target_held};
+ghost use Rattle.sws_run.specs.Report.{IsFrameMade, ConvertsMade, made_length, made_targets};
+ghost use Rattle.sws_run.specs.Report.{sum_lines};
 ghost use Rattle.sws_run.specs.Request.{IsSoundMaking};
 
 use crate::planning::look_up;
 use crate::request::Making;
 use frac_math::OutOfMemory;
-use frame_slices::{Gate, Generator, SlicedFrame};
+use frame_slices::{Gate, Generator, SlicedFrame, Unfinished};
 use itoa::Buffer;
 use list_cache::ListCache;
-use pix_io::{Got, frame_len};
+use pix_io::frame_len;
 use row_plan::Plan;
 use std::alloc::Global;
+use std::sync::Wait;
 use std::thread::Threads;
 
 // How many frames are made.
@@ -25,26 +27,37 @@ const SIDE: u32 = 512;
 // Room for the lines, in bytes.
 const LINES_ROOM: usize = 96;
 
-// Reads a frame of a generator, which has so many bytes left.
-fn make_frame(generator: &mut Generator, frame: &mut SlicedFrame)
-    requires some { 0 < source_size frame.old }
-    requires enough { source_size frame.old
+// Converts the next frame of a generator, which has so many bytes left.
+fn convert_made_frame<R: Threads + Wait + Sync, G: Gate>(
+    rt: &R,
+    alloc: Global,
+    making: &Making,
+    plan: &Plan,
+    generator: &mut Generator,
+    frame: SlicedFrame,
+    gate: &G,
+) -> Result<SlicedFrame, OutOfMemory>
+    requires sound { IsSoundMaking making.now }
+    requires plan { plan.now.pair ≡ making.now.pair }
+    requires frame { IsFrameMade making.now frame.whole }
+    requires enough { made_length making.now.pair
         ≤ length (generated generator.old.state generator.old.left) }
-    ensures made { generated generator.old.state generator.old.left
-        ≡ source_held frame.new ++ generated generator.new.state generator.new.left }
-    ensures size { length (source_held frame.new) ≡ source_size frame.old }
-    ensures whole { frame.new.whole ≡ frame.old.whole }
+    ensures converted { IfOk result (λ frame. ConvertsMade making.now
+        (generated generator.old.state generator.old.left)
+        (generated generator.new.state generator.new.left) (target_held frame)) }
+    ensures whole { IfOk result (λ frame. IsFrameMade making.now frame.whole) }
 {
-    match frame.read(generator) {
-        Ok(Got::Whole) => {}
-        Ok(Got::End) => unreachable!(),
-        Ok(Got::Short(_)) => unreachable!(),
-        Err(_) => unreachable!(),
+    match frame.convert_next(rt, alloc, plan, making.workers, gate, generator) {
+        Ok(converted) => Ok(converted),
+        Err(Unfinished::End) => unreachable!(),
+        Err(Unfinished::Short(_)) => unreachable!(),
+        Err(Unfinished::Failed(_)) => unreachable!(),
+        Err(Unfinished::OutOfMemory) => Err(OutOfMemory),
     }
 }
 
 // The sum of the bytes that the frames are converted to, in the slices of one frame.
-fn sum_targets<R: Threads + Sync, G: Gate>(
+fn sum_targets<R: Threads + Wait + Sync, G: Gate>(
     rt: &R,
     alloc: Global,
     making: &Making,
@@ -62,8 +75,7 @@ fn sum_targets<R: Threads + Sync, G: Gate>(
     let mut frame = frame;
     let mut total = 0u128;
     for _ in 0..FRAMES {
-        make_frame(&mut generator, &mut frame);
-        frame = frame.convert(rt, alloc, plan, making.workers, gate)?;
+        frame = convert_made_frame(rt, alloc, making, plan, &mut generator, frame, gate)?;
         total += u128::from(frame.sum());
     }
     Ok(total)
@@ -86,7 +98,7 @@ fn sum_lines(alloc: Global, count: u64, total: u128) -> Result<String, OutOfMemo
 
 /// The number and the sum of the bytes that frames made from a seed are converted to. One frame is
 /// held at a time.
-pub fn sum_text<R: Threads + Sync, G: Gate>(
+pub fn sum_text<R: Threads + Wait + Sync, G: Gate>(
     rt: &R,
     alloc: Global,
     making: &Making,

@@ -14,6 +14,7 @@ use frac_math::OutOfMemory;
 use frame_slices::Gate;
 use pix_meaning::Pair;
 use std::alloc::Global;
+use std::sync::Wait;
 use std::thread::Threads;
 
 // The text of the normal list of a pair.
@@ -26,7 +27,7 @@ fn list_of_operations(alloc: Global, pair: &Pair) -> Result<String, OutOfMemory>
 }
 
 /// The text of a report.
-pub fn report_text<R: Threads + Sync, G: Gate>(
+pub fn report_text<R: Threads + Wait + Sync, G: Gate>(
     rt: &R,
     alloc: Global,
     report: &Report,

@@ -11,6 +11,7 @@ use pairs::{formats, pixels};
 use pix_io::{MemSink, MemSource};
 use std::alloc::{AllocError, Global};
 use std::process::Abort;
+use std::sync::Wait;
 use std::test::Fail;
 use std::thread::Threads;
 
@@ -49,7 +50,7 @@ fn fails(alloc: Global, call: Option<u64>) -> Result<Vec<u64>, AllocError> {
 }
 
 // A run over memory.
-fn run<R: Threads + Sync>(
+fn run<R: Threads + Wait + Sync>(
     rt: &R,
     alloc: Global,
     line: &str,
@@ -60,7 +61,7 @@ fn run<R: Threads + Sync>(
 }
 
 // A run over memory whose workers pass a gate.
-fn run_through<R: Threads + Sync, G: Gate>(
+fn run_through<R: Threads + Wait + Sync, G: Gate>(
     rt: &R,
     alloc: Global,
     line: &str,
@@ -130,7 +131,7 @@ fn line_of(alloc: Global, names: &str) -> Result<String, AllocError> {
 }
 
 // Converts the frame of each row.
-fn convert_rows<R: Abort + Threads + Sync>(
+fn convert_rows<R: Abort + Threads + Wait + Sync>(
     rt: &R,
     alloc: Global,
     rows: &[&str],

@@ -13,11 +13,12 @@ use crate::request::{Report, Request, request_of};
 use frame_slices::Gate;
 use pix_io::{Sink, Source, write_all};
 use std::alloc::Global;
+use std::sync::Wait;
 use std::thread::Threads;
 use sws_words::{WordsEnd, read_words};
 
 // Writes a report.
-fn write_report<R: Threads + Sync, Out: Sink, G: Gate>(
+fn write_report<R: Threads + Wait + Sync, Out: Sink, G: Gate>(
     rt: &R,
     alloc: Global,
     report: &Report,
@@ -55,7 +56,7 @@ fn write_report<R: Threads + Sync, Out: Sink, G: Gate>(
 }
 
 // Does what the words ask for.
-fn run_words<R: Threads + Sync, In: Source, Out: Sink, G: Gate>(
+fn run_words<R: Threads + Wait + Sync, In: Source, Out: Sink, G: Gate>(
     rt: &R,
     alloc: Global,
     words: &[String],
@@ -92,7 +93,7 @@ fn run_words<R: Threads + Sync, In: Source, Out: Sink, G: Gate>(
 /// `notes`, whose faults change nothing else.
 ///
 /// The six clauses are records in `specs/Run.antt`.
-pub fn run_sws<R: Threads + Sync, In: Source, Out: Sink, Notes: Sink, G: Gate>(
+pub fn run_sws<R: Threads + Wait + Sync, In: Source, Out: Sink, Notes: Sink, G: Gate>(
     rt: &R,
     alloc: Global,
     words: &[String],

@@ -9,6 +9,7 @@ use pix_io::{MemSink, MemSource};
 use pix_meaning::{Pair, Side};
 use row_plan::plan;
 use std::alloc::AllocError;
+use std::sync::Wait;
 use std::test::Fail;
 
 // A frame of a width and a height, in slices of so many rows, for so many workers.
@@ -20,16 +21,16 @@ struct Shape {
     workers: u32,
 }
 
-// How the frame was read that the input begins with, and what was written of it; nothing where
+// What was written of the frame that the input begins with, or why there is none; nothing where
 // there is no such conversion.
-fn slices_converted<R: Threads + Sync>(
+fn slices_converted<R: Threads + Wait + Sync>(
     rt: &R,
     alloc: Global,
     from: Side,
     to: Side,
     shape: Shape,
     input: &[u8],
-) -> Result<Option<(Got, Vec<u8>)>, AllocError>
+) -> Result<Option<Result<Vec<u8>, Unfinished>>, AllocError>
     requires from { IsTableSide from }
     requires to { IsTableSide to }
 {
@@ -50,30 +51,22 @@ fn slices_converted<R: Threads + Sync>(
     let Ok(plan) = plan(alloc, &pair, 0) else {
         return Ok(None);
     };
-    let Ok(mut frame) = SlicedFrame::new(
-        alloc,
-        &from.desc,
-        &plan.pair().to.desc,
-        width,
-        height,
-        each,
-    ) else {
+    let Ok(frame) = SlicedFrame::new(alloc, &from.desc, &plan.pair().to.desc, width, height, each)
+    else {
         return Ok(None);
     };
     let mut source = MemSource::new(input.to_vec(alloc)?, 5, Vec::new(alloc));
     let Ok(mut sink) = MemSink::new(alloc, 5000, 7, Vec::new(alloc)) else {
         return Ok(None);
     };
-    let Ok(got) = frame.read(&mut source) else {
-        return Ok(None);
-    };
-    let Ok(frame) = frame.convert(rt, alloc, &plan, workers, &OpenGate) else {
-        return Ok(None);
+    let frame = match frame.convert_next(rt, alloc, &plan, workers, &OpenGate, &mut source) {
+        Ok(frame) => frame,
+        Err(why) => return Ok(Some(Err(why))),
     };
     let Ok(()) = frame.write(&mut sink) else {
         return Ok(None);
     };
-    Ok(Some((got, sink.bytes().to_vec(alloc)?)))
+    Ok(Some(Ok(sink.bytes().to_vec(alloc)?)))
 }
 
 #[test]
@@ -90,11 +83,18 @@ fn converts_with_every_number_of_workers(rt: HostRuntime) -> Result<(), Fail> {
             workers,
         };
         let got = slices_converted(&rt, rt.alloc(), from, to, shape, &input)?;
-        let (read, bytes) = got.ok_or("a frame")?;
-        assert_eq!(rt; read, Got::Whole, "{each} {workers}");
+        let bytes = got.ok_or("a plan")?.ok().ok_or("a frame")?;
         assert_eq!(rt; bytes.as_slice(), output.as_slice(), "{each} {workers}");
     }
     Ok(())
+}
+
+// Why there is no frame where so many bytes came, fewer than it has.
+fn left_after(bytes: usize) -> Unfinished {
+    match bytes {
+        0 => Unfinished::End,
+        n => Unfinished::Short(n),
+    }
 }
 
 #[test]
@@ -113,16 +113,12 @@ fn gives_each_slice_the_palette(rt: HostRuntime) -> Result<(), Fail> {
     for cut in [0, 1, 2, 3, 4, 1026, 1027] {
         let part = input.get(..cut).ok_or("a front")?;
         let got = slices_converted(&rt, rt.alloc(), from, to, shape, part)?;
-        let (read, bytes) = got.ok_or("a frame")?;
-        let expected = match cut {
-            0 => Got::End,
-            1027 => Got::Whole,
-            n => Got::Short(n),
-        };
-        assert_eq!(rt; read, expected, "{cut}");
-        if cut == 1027 {
-            let output = [0xff, 0x40, 0x10, 0x21, 0x93, 0x77, 0xff, 0x40, 0x10];
-            assert_eq!(rt; bytes.as_slice(), output.as_slice());
+        match got.ok_or("a plan")? {
+            Ok(bytes) => {
+                let output = [0xff, 0x40, 0x10, 0x21, 0x93, 0x77, 0xff, 0x40, 0x10];
+                assert_eq!(rt; (cut, bytes.as_slice()), (1027, output.as_slice()));
+            }
+            Err(why) => assert_eq!(rt; why, left_after(cut)),
         }
     }
     Ok(())
@@ -142,15 +138,12 @@ fn cuts_planes_at_each_byte(rt: HostRuntime) -> Result<(), Fail> {
     for cut in 0..10 {
         let part = &input[..cut];
         let got = slices_converted(&rt, rt.alloc(), from, to, shape, part)?;
-        let (read, bytes) = got.ok_or("a frame")?;
-        let expected = match cut {
-            0 => Got::End,
-            9 => Got::Whole,
-            n => Got::Short(n),
-        };
-        assert_eq!(rt; read, expected, "{cut}");
-        if cut == 9 {
-            assert_eq!(rt; bytes.as_slice(), [7, 1, 4, 8, 2, 5, 9, 3, 6].as_slice());
+        match got.ok_or("a plan")? {
+            Ok(bytes) => {
+                let output = [7, 1, 4, 8, 2, 5, 9, 3, 6];
+                assert_eq!(rt; (cut, bytes.as_slice()), (9, output.as_slice()));
+            }
+            Err(why) => assert_eq!(rt; why, left_after(cut)),
         }
     }
     Ok(())

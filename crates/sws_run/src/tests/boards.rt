@@ -1,6 +1,5 @@
 // Frames whose slices two workers claim on a board.
 use super::*;
-use row_plan::SliceJob;
 use slice_claim::Held;
 use std::sync::atomic::Ordering::SeqCst;
 use std::sync::atomic::{AtomicBool, AtomicU64};
@@ -40,7 +39,7 @@ impl Turnstile {
 }
 
 impl Gate for Turnstile {
-    fn pass(&self, held: &Held<SliceJob>) {
+    fn pass<J>(&self, held: &Held<J>) {
         match held.number() {
             0 => self.hold(self.first.fetch_add(1, SeqCst).wrapping_add(1)),
             1 => {

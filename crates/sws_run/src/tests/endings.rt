@@ -1,7 +1,7 @@
 use super::*;
 
 // Runs that write nothing: the line, the input, the status and the line on notes.
-fn ends<R: Abort + Threads + Sync>(
+fn ends<R: Abort + Threads + Wait + Sync>(
     rt: &R,
     alloc: Global,
     line: &str,

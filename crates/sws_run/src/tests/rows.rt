@@ -1,7 +1,7 @@
 use super::*;
 
 // The line, the bytes of the input and those of the output.
-fn converts<R: Abort + Threads + Sync>(
+fn converts<R: Abort + Threads + Wait + Sync>(
     rt: &R,
     alloc: Global,
     line: &str,
@@ -185,7 +185,7 @@ fn converts_in_slices(rt: HostRuntime) -> Result<(), Fail> {
 }
 
 // A run that reads nothing: its line, its number of frames and its text.
-fn reports<R: Abort + Threads + Sync>(
+fn reports<R: Abort + Threads + Wait + Sync>(
     rt: &R,
     alloc: Global,
     line: &str,

@@ -5,10 +5,11 @@ use Rattle.pix_io.specs.Streams.{Takes}
 use Rattle.pix_io.proofs.Calls.{HasCause-ok}
 use Rattle.pix_io.specs.declared.transfer.Got.TheVariants.{Whole}
 use Rattle.frame_slices.specs.FrameSlices.{planes_in, behind_in}
-use Rattle.frame_slices.proofs.SlicePlanes.{length-planes_in, same_places, same_rows, all_have, palette_kept}
+use Rattle.frame_slices.proofs.SlicePlanes.{length-planes_in, same_places, same_rows, all_have}
 use Rattle.frame_slices.proofs.SliceFrame.{nothing_behind}
 use Rattle.frame_slices.proofs.ReadsOn.{end_at, short_at, failed_at, both_read, end_in_front, short_in_front, failed_in_front}
 use Rattle.frame_slices.proofs.ReadsOn.{whole_in_front}
+use Rattle.frame_slices.proofs.Fronts.{no_palettes}
 use Rattle.frame_slices.proofs.slices.read_bytes.Goals as goal
 
 pub returns-in-Ok-End-clause-read : goal.returns-in-Ok-End-clause-read
@@ -29,19 +30,13 @@ returns-in-Err-clause-read g c =
     failed_in_front (g.In.Source.shown c.args.input.now) (g.In.Source.shown c.read_planes.new.input) (planes_in 4 xs)
     (behind_in xs) c.in-Err.failed c.in-Err.ensures.read
 
-pub returns-in-Ok-End-clause-behind : goal.returns-in-Ok-End-clause-behind
-returns-in-Ok-End-clause-behind g c = palette_kept c.args.slices.now c.read_planes.new.slices c.read_planes.ensures.behind c.requires.behind
-
-pub returns-in-Ok-Short-clause-behind : goal.returns-in-Ok-Short-clause-behind
-returns-in-Ok-Short-clause-behind g c =
-    palette_kept c.args.slices.now c.read_planes.new.slices c.read_planes.ensures.behind c.requires.behind
-
-pub returns-in-Err-clause-behind : goal.returns-in-Err-clause-behind
-returns-in-Err-clause-behind g c = palette_kept c.args.slices.now c.read_planes.new.slices c.read_planes.ensures.behind c.requires.behind
-
 pub returns-then-not-whole-clause-behind : goal.returns-then-not-whole-clause-behind
 returns-then-not-whole-clause-behind g c =
-    palette_kept c.args.slices.now c.read_planes.new.slices c.read_planes.ensures.behind c.requires.behind
+    let whole = c.args.whole.now in
+    let xs = c.read_planes.new.slices in
+    let none : whole.source.palette ≡ false = search rules in
+    no_palettes whole.source whole.target whole.width xs
+    (same_places whole.source whole.target whole.width 0 xs c.args.slices.now c.read_planes.ensures.places c.requires.places) none
 
 pub returns-then-not-whole-clause-read : goal.returns-then-not-whole-clause-read
 returns-then-not-whole-clause-read g c =

@@ -1,12 +1,10 @@
-use Rattle.std.proofs.Common.{◌≡◌, ◌∙◌, ap, rules, arith, subst, inr, IfSome, sym}
+use Rattle.std.proofs.Common.{◌≡◌, rules, arith, subst, inr, sym}
 use Rattle.pix_io.proofs.Calls.{Rose-after}
-use Rattle.pix_meaning.specs.declared.pair.Pair.{Pair}
 use Rattle.sws_run.specs.declared.ended.Ended.TheVariants.{Stream}
-use Rattle.sws_run.specs.Cut.{Clean, TooMany, Broken, Faulty, piece_cut, most_frames}
-use Rattle.sws_run.specs.Frames.{EndsFrames, IfTold, IsFrameFor, TakesFrame, TakesPiece, size_by, source_held, target_held, text_by}
+use Rattle.sws_run.specs.Cut.{Clean, TooMany, Broken, most_frames}
+use Rattle.sws_run.specs.Frames.{EndsFrames, size_by, target_held, text_by}
 use Rattle.sws_run.proofs.Runs.{start_place, start_texts, end_nothing, end_faulty, end_last, ends_as, texts_whole, stops_in_part}
-use Rattle.sws_run.proofs.Runs.{stops_at_last, text_is, next_place, has_text, next_texts, stops_writing, stops_for_memory, held_by}
-use Rattle.sws_run.proofs.Runs.{converted_by}
+use Rattle.sws_run.proofs.Runs.{stops_at_last, text_is, next_place, has_text, next_texts, stops_writing, stops_for_memory}
 use Rattle.sws_run.proofs.run.convert_frames.Goals as goal
 
 pub loop-done-init : goal.loop-done-init
@@ -19,21 +17,21 @@ loop-done-init g c = record {
   fits = c.requires.frame;
 }
 
-pub returns-in-Ok-End-clause-answer : goal.returns-in-Ok-End-clause-answer
-returns-in-Ok-End-clause-answer g c =
+pub returns-in-Err-Nothing-clause-answer : goal.returns-in-Err-Nothing-clause-answer
+returns-in-Err-Nothing-clause-answer g c =
     let converter = c.args.converter.now in
     let size = size_by converter in
     let k = c.loop-done.done in
     let a = (g.In.Source.shown c.args.input.now).bytes in
-    let next = rw c.in-Ok-End.field-0-is at c.in-Ok-End.ensures.next in
+    let left = rw c.in-Err-Nothing.field-0-is at c.in-Err-Nothing.ensures.left in
     let frames = end_nothing converter size k a (g.In.Source.shown c.loop-done.input).bytes c.loop-done-test.true
-    c.loop-done.invariant.place next.0 in
+    c.loop-done.invariant.place left.0 in
     record {
       known = λ _. omega arith;
       ending = λ _. ends_as converter size k Clean a frames;
       output = λ _. texts_whole converter size k Clean a (g.Out.Sink.shown c.args.output.now)
           (g.Out.Sink.shown c.loop-done.output) frames c.loop-done.invariant.written;
-      read = next.1;
+      read = left.1;
     }
 
 pub returns-in-Err-Stream-clause-answer : goal.returns-in-Err-Stream-clause-answer
@@ -44,15 +42,12 @@ returns-in-Err-Stream-clause-answer g c =
     let a = (g.In.Source.shown c.args.input.now).bytes in
     let b = (g.In.Source.shown c.loop-done.input).bytes in
     let fault = c.in-Err-Stream.fault in
-    let known = rw c.in-Err-Stream.field-0-is at c.in-Err-Stream.ensures.known in
-    let found = rw c.in-Err-Stream.field-0-is at c.in-Err-Stream.ensures.fault in
-    let long = held_by converter c.loop-done.frame c.loop-done.invariant.fits in
-    let is = subst (λ n. IfSome b (λ rest. piece_cut converter.source_form n rest ≡ Faulty fault)) long found in
-    let frames = end_faulty converter size k fault a b c.loop-done-test.true c.loop-done.invariant.place is in
-    subst (λ f. EndsFrames converter size (g.In.Source.shown c.args.input.now) (g.In.Source.shown c.read_frame.new.input)
+    let left = rw c.in-Err-Stream.field-0-is at c.in-Err-Stream.ensures.left in
+    let frames = end_faulty converter size k fault a b c.loop-done-test.true c.loop-done.invariant.place left.1 in
+    subst (λ f. EndsFrames converter size (g.In.Source.shown c.args.input.now) (g.In.Source.shown c.convert_frame.new.input)
     (g.Out.Sink.shown c.args.output.now) (g.Out.Sink.shown c.loop-done.output) (Stream f k)) (sym c.in-Err-Stream.fault-is)
     (record {
-      known = λ _. inr (known, c.loop-done-test.true);
+      known = λ _. inr (left.0, c.loop-done-test.true);
       ending = λ _. ends_as converter size k (Broken fault) a frames;
       output = λ _. texts_whole converter size k (Broken fault) a (g.Out.Sink.shown c.args.output.now)
           (g.Out.Sink.shown c.loop-done.output) frames c.loop-done.invariant.written;
@@ -62,41 +57,36 @@ returns-in-Err-Stream-clause-answer g c =
 pub returns-in-Err-ReadFault-clause-read_fault : goal.returns-in-Err-ReadFault-clause-read_fault
 returns-in-Err-ReadFault-clause-read_fault g c =
     let converter = c.args.converter.now in
-    let size = size_by converter in
-    let a = (g.In.Source.shown c.args.input.now).bytes in
-    let b = (g.In.Source.shown c.loop-done.input).bytes in
-    let d = (g.In.Source.shown c.read_frame.new.input).bytes in
-    let part = rw c.in-Err-ReadFault.field-0-is at c.in-Err-ReadFault.ensures.read_fault in
-    let long = held_by converter c.loop-done.frame c.loop-done.invariant.fits in
+    let part = rw c.in-Err-ReadFault.field-0-is at c.in-Err-ReadFault.ensures.left in
     record {
       cause = Rose-after _ _ _ c.loop-done.invariant.reads.faults
           (rw c.in-Err-ReadFault.field-0-is at c.in-Err-ReadFault.ensures.cause).failed;
-      place = stops_in_part converter size c.loop-done.done a b d (g.Out.Sink.shown c.args.output.now)
-          (g.Out.Sink.shown c.loop-done.output) c.loop-done-test.true
-          c.loop-done.invariant.place (subst (λ n. IfTold b d (TakesPiece converter.source_form n)) long part)
-          c.loop-done.invariant.written;
+      place = stops_in_part converter (size_by converter) c.loop-done.done (g.In.Source.shown c.args.input.now).bytes
+          (g.In.Source.shown c.loop-done.input).bytes (g.In.Source.shown c.convert_frame.new.input).bytes
+          (g.Out.Sink.shown c.args.output.now) (g.Out.Sink.shown c.loop-done.output) c.loop-done-test.true
+          c.loop-done.invariant.place part c.loop-done.invariant.written;
     }
 
-pub returns-in-Err-write_frame-clause-write_fault : goal.returns-in-Err-write_frame-clause-write_fault
-returns-in-Err-write_frame-clause-write_fault g c =
+pub returns-in-Err-OutOfMemory-clause-memory : goal.returns-in-Err-OutOfMemory-clause-memory
+returns-in-Err-OutOfMemory-clause-memory g c =
+    let converter = c.args.converter.now in
+    stops_for_memory converter (size_by converter) c.loop-done.done (g.In.Source.shown c.args.input.now).bytes
+    (g.In.Source.shown c.loop-done.input).bytes (g.Out.Sink.shown c.args.output.now) (g.Out.Sink.shown c.loop-done.output)
+    c.loop-done.invariant.place c.loop-done.invariant.written
+
+pub returns-in-Err-clause-write_fault : goal.returns-in-Err-clause-write_fault
+returns-in-Err-clause-write_fault g c =
     let converter = c.args.converter.now in
     let size = size_by converter in
     let k = c.loop-done.done in
     let a = (g.In.Source.shown c.args.input.now).bytes in
-    let frame = source_held c.read_frame.new.frame in
-    let target = target_held c.in-Ok.converted in
-    let fits = subst (IsFrameFor converter) (sym c.read_frame.ensures.whole) c.loop-done.invariant.fits in
-    let is = converted_by converter c.args.plan.now.pair c.read_frame.new.frame.whole frame target c.requires.plan fits
-    c.in-Ok.ensures.target in
-    let next = subst (λ n. IfTold (g.In.Source.shown c.loop-done.input).bytes (g.In.Source.shown c.read_frame.new.input).bytes
-    (TakesFrame converter.source_form n frame))
-    (held_by converter c.loop-done.frame c.loop-done.invariant.fits) (rw c.in-Ok-Frame.field-0-is at c.in-Ok-Frame.ensures.next) in
-    let has = has_text converter size k frame a (g.In.Source.shown c.loop-done.input).bytes
-    (g.In.Source.shown c.read_frame.new.input).bytes c.loop-done-test.true c.loop-done.invariant.place next in
-    let part = rw (text_is converter frame target is) at c.in-Err-write_frame.ensures.part in
+    let made = c.in-Ok.ensures.converted in
+    let has = has_text converter size k made.frame a (g.In.Source.shown c.loop-done.input).bytes
+    (g.In.Source.shown c.convert_frame.new.input).bytes c.loop-done-test.true c.loop-done.invariant.place made.taken in
+    let part = rw (text_is converter made.frame (target_held c.in-Ok.converted) made.converted) at c.in-Err.ensures.part in
     record {
       cause = search rules;
-      place = stops_writing converter size k (text_by converter frame) a (g.Out.Sink.shown c.args.output.now)
+      place = stops_writing converter size k (text_by converter made.frame) a (g.Out.Sink.shown c.args.output.now)
           (g.Out.Sink.shown c.loop-done.output) (g.Out.Sink.shown c.write_frame.new.output)
           has c.loop-done.invariant.written part;
     }
@@ -108,25 +98,18 @@ loop-done-preserved g c =
     let k = c.loop-done.done in
     let a = (g.In.Source.shown c.args.input.now).bytes in
     let b = (g.In.Source.shown c.loop-done.input).bytes in
-    let d = (g.In.Source.shown c.read_frame.new.input).bytes in
-    let frame = source_held c.read_frame.new.frame in
-    let target = target_held c.in-Ok.converted in
-    let fits = subst (IsFrameFor converter) (sym c.read_frame.ensures.whole) c.loop-done.invariant.fits in
-    let is = converted_by converter c.args.plan.now.pair c.read_frame.new.frame.whole frame target c.requires.plan fits
-    c.in-Ok.ensures.target in
-    let next = subst (λ n. IfTold (g.In.Source.shown c.loop-done.input).bytes (g.In.Source.shown c.read_frame.new.input).bytes
-    (TakesFrame converter.source_form n frame))
-    (held_by converter c.loop-done.frame c.loop-done.invariant.fits) (rw c.in-Ok-Frame.field-0-is at c.in-Ok-Frame.ensures.next) in
-    let has = has_text converter size k frame a b d c.loop-done-test.true c.loop-done.invariant.place next in
-    let text = rw (text_is converter frame target is) at c.in-Ok-write_frame.ensures.written in
+    let d = (g.In.Source.shown c.convert_frame.new.input).bytes in
+    let made = c.in-Ok.ensures.converted in
+    let has = has_text converter size k made.frame a b d c.loop-done-test.true c.loop-done.invariant.place made.taken in
+    let text = rw (text_is converter made.frame (target_held c.in-Ok.converted) made.converted) at c.in-Ok-write_frame.ensures.written in
     record {
-      place = next_place converter size k frame a b d c.loop-done-test.true c.loop-done.invariant.place next;
-      written = next_texts converter size k (text_by converter frame) a (g.Out.Sink.shown c.args.output.now)
+      place = next_place converter size k made.frame a b d c.loop-done-test.true c.loop-done.invariant.place made.taken;
+      written = next_texts converter size k (text_by converter made.frame) a (g.Out.Sink.shown c.args.output.now)
           (g.Out.Sink.shown c.loop-done.output) (g.Out.Sink.shown c.write_frame.new.output)
           has c.loop-done.invariant.written text;
       reads = search rules;
       writes = search rules;
-      fits = subst (IsFrameFor converter) (sym c.in-Ok.ensures.whole) fits;
+      fits = c.in-Ok.ensures.whole;
     }
 
 pub returns-in-Ok-true-clause-answer : goal.returns-in-Ok-true-clause-answer
@@ -176,23 +159,3 @@ returns-clause-read_fault g c =
       place = stops_at_last converter size a b d (g.Out.Sink.shown c.args.output.now) (g.Out.Sink.shown c.loop-done.output)
           (rw k at c.loop-done.invariant.place) c.in-Err-is_at_end.ensures.kept (rw k at c.loop-done.invariant.written);
     }
-
-pub convert-requires-clause-source : goal.convert-requires-clause-source
-convert-requires-clause-source g c = λ κs bound.
-    ap (λ (pair : Pair). pair.from.desc) c.requires.plan
-    ∙ (subst (IsFrameFor c.args.converter.now) (sym c.read_frame.ensures.whole) c.loop-done.invariant.fits).source
-
-pub convert-requires-clause-target : goal.convert-requires-clause-target
-convert-requires-clause-target g c = λ κs bound.
-    ap (λ (pair : Pair). pair.to.desc) c.requires.plan
-    ∙ (subst (IsFrameFor c.args.converter.now) (sym c.read_frame.ensures.whole) c.loop-done.invariant.fits).target
-
-pub read_frame-requires : goal.read_frame-requires
-read_frame-requires g c = omega (arith, held_by c.args.converter.now c.loop-done.frame c.loop-done.invariant.fits, c.requires.some)
-
-pub returns-in-Err-clause-memory : goal.returns-in-Err-clause-memory
-returns-in-Err-clause-memory g c =
-    let converter = c.args.converter.now in
-    stops_for_memory converter (size_by converter) c.loop-done.done (g.In.Source.shown c.args.input.now).bytes
-    (g.In.Source.shown c.loop-done.input).bytes (g.Out.Sink.shown c.args.output.now) (g.Out.Sink.shown c.loop-done.output)
-    c.loop-done.invariant.place c.loop-done.invariant.written

@@ -1,7 +1,5 @@
-use Rattle.std.proofs.Common.{◌<◌, replicate, sym, subst, arith}
+use Rattle.std.proofs.Common.{◌<◌, sym, subst, arith}
 use Rattle.frame_slices.specs.declared.frame_slice.Place.{Place}
-use Rattle.frame_slices.specs.FrameSlices.{palette_length}
-use Rattle.frame_slices.proofs.SlicePlanes.{one_palette}
 use Rattle.frame_slices.proofs.CutPlaces.{cut_places, cut_covers, cut_some, cut_few}
 use Rattle.frame_slices.proofs.sliced_frame.SlicedFrame.new.Goals as goal
 
@@ -30,5 +28,4 @@ invariant_of-result c =
       few = omega (arith, cut_few whole each v.items c.requires.slice_height c.requires.some made c.requires.height, v.ok.0);
       places = cut_places whole each v.items c.requires.slice_height c.requires.some made;
       covers = cut_covers whole each v.items c.requires.slice_height c.requires.some made;
-      behind = one_palette (replicate (palette_length whole.source) 0) v.items v.items some c.in_ok-slices.ensures.zeros;
     }
