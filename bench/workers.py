@@ -1,12 +1,12 @@
 #!/usr/bin/env python3
 """How much faster four workers convert than one, and how much memory a large frame takes.
 
-    bench/workers.py PROGRAM [--frames N] [--size WxH] [--runs K]
+    bench/workers.py PROGRAM [--pair "IN OUT"] [--frames N] [--size WxH] [--runs K]
     bench/workers.py PROGRAM --board [--runs K]
     bench/workers.py PROGRAM --memory
 
-The first form converts the same rgb24 frames to yuv444p with one worker, with four, and by four programs of one worker
-beside each other, in turn; it prints the frames a second of each, and by how much the second and the third are more
+The first form converts the same frames, of rgb24 to yuv444p unless another pair is given, with one worker, with four, and
+by four programs of one worker beside each other, in turn; it prints the frames a second of each, and by how much the second and the third are more
 than the first: what four programs give is what the processors have to give at the time. Of K runs the fastest of each
 counts. The second shows what a board costs a
 frame: the frames a second of rgb24 to bgr24, small and large, as one slice (which costs no thread) and in eight
@@ -22,9 +22,13 @@ import tempfile
 import time
 
 
-def convert(program, source, target, width, height, workers, slice_height, programs=1):
-    """Seconds that the conversion of a file of rgb24 frames takes, where so many programs do it beside each other."""
-    words = [program, "--in", "rgb24", "--out", target, "--size", "%dx%d" % (width, height)]
+# the bytes of a source pixel
+PIXEL_BYTES = {"gray": 1, "gray16le": 2, "rgb24": 3, "nv24": 3, "yuv444p": 3, "rgba": 4, "rgb48le": 6, "yuv444p10le": 6}
+
+
+def convert(program, source, pair, width, height, workers, slice_height, programs=1):
+    """Seconds that the conversion of a file of frames takes, where so many programs do it beside each other."""
+    words = [program, "--in", pair[0], "--out", pair[1], "--size", "%dx%d" % (width, height)]
     words += ["--workers", str(workers), "--slice", str(slice_height)]
     start = time.monotonic()
     running = []
@@ -37,22 +41,22 @@ def convert(program, source, target, width, height, workers, slice_height, progr
     return time.monotonic() - start
 
 
-def write_frames(path, width, height, frames):
+def write_frames(path, width, height, frames, pixel_bytes=3):
     """Frames whose bytes differ from each other."""
-    row = bytes((7 * x + x // 251) % 256 for x in range(3 * width))
+    row = bytes((7 * x + x // 251) % 256 for x in range(pixel_bytes * width))
     with open(path, "wb") as out:
         for y in range(frames * height):
             turn = y % len(row)
             out.write(row[turn:] + row[:turn])
 
 
-def speed(program, source, width, height, frames, runs):
-    write_frames(source, width, height, frames)
+def speed(program, source, pair, width, height, frames, runs):
+    write_frames(source, width, height, frames, PIXEL_BYTES[pair[0]])
     slice_height = max(1, height // 64)
     best = {}
     for _ in range(runs):
         for workers, programs in ((1, 1), (4, 1), (1, 4)):
-            seconds = convert(program, source, "yuv444p", width, height, workers, slice_height, programs)
+            seconds = convert(program, source, pair, width, height, workers, slice_height, programs)
             best[workers, programs] = min(seconds, best.get((workers, programs), seconds))
     for (workers, programs), seconds in best.items():
         rate = programs * frames / seconds
@@ -69,7 +73,7 @@ def board(program, source, runs):
             row = "%-11s%8d" % ("%dx%d" % (width, height), slices)
             for workers in (1, 4):
                 seconds = min(
-                    convert(program, source, "bgr24", width, height, workers, height // slices) for _ in range(runs))
+                    convert(program, source, ("rgb24", "bgr24"), width, height, workers, height // slices) for _ in range(runs))
                 row += "%14.1f" % (frames / seconds)
             print(row, flush=True)
 
@@ -80,7 +84,7 @@ def memory(program, source):
     for slice_height in (1, 16384):
         child = os.fork()
         if child == 0:
-            convert(program, source, "bgr24", width, height, 64, slice_height)
+            convert(program, source, ("rgb24", "bgr24"), width, height, 64, slice_height)
             peak = resource.getrusage(resource.RUSAGE_CHILDREN).ru_maxrss
             frame = 3 * width * height
             print("slice %d: peak %d KiB; source and target frame are %d KiB" % (slice_height, peak, 2 * frame // 1024))
@@ -94,6 +98,7 @@ def memory(program, source):
 def main():
     parser = argparse.ArgumentParser(description=__doc__, formatter_class=argparse.RawDescriptionHelpFormatter)
     parser.add_argument("program")
+    parser.add_argument("--pair", default="rgb24 yuv444p")
     parser.add_argument("--frames", type=int, default=30)
     parser.add_argument("--size", default="1920x1080")
     parser.add_argument("--runs", type=int, default=3)
@@ -101,6 +106,9 @@ def main():
     parser.add_argument("--memory", action="store_true")
     asked = parser.parse_args()
     width, height = (int(n) for n in asked.size.split("x"))
+    pair = asked.pair.split()
+    if len(pair) != 2 or pair[0] not in PIXEL_BYTES:
+        sys.exit("a pair is two formats, of which the first is one of: " + ", ".join(PIXEL_BYTES))
     with tempfile.TemporaryDirectory() as folder:
         source = os.path.join(folder, "frames.rgb")
         if asked.memory:
@@ -108,7 +116,7 @@ def main():
         elif asked.board:
             board(asked.program, source, asked.runs)
         else:
-            speed(asked.program, source, width, height, asked.frames, asked.runs)
+            speed(asked.program, source, pair, width, height, asked.frames, asked.runs)
 
 
 if __name__ == "__main__":
