@@ -1,2 +1,3 @@
+pub mod Distances
 pub mod Sixteens
 pub mod Turns

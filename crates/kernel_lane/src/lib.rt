@@ -4,6 +4,8 @@
 
 mod blocks;
 mod bytes;
+mod combine;
+mod elements;
 mod lanes;
 mod numerators;
 mod pairs;
@@ -20,11 +22,13 @@ mod widths;
 
 pub use blocks::{join_pixels, split_pixels};
 pub use bytes::{swap_u16, swap_u32};
+pub use combine::combine_part;
+pub use elements::{Element, put_elements, take_elements};
 pub use lanes::{change_part, merge_few, merge_part};
 pub use numerators::{clamp, floor_div, mul_add};
-pub use parts::{change_front, fill_part, merge_front, merge_within};
+pub use parts::{change_front, fill_between, fill_part, merge_front, merge_within};
 pub use picks::pick;
 pub use px::Px;
-pub use rule::{Change, Merge};
+pub use rule::{Change, Combine, Merge};
 pub use shifts::{shift_left, shift_right};
 pub use widths::{expand, narrow, widen};

@@ -15,6 +15,18 @@ pub fn fill_part<T: Copy, const N: usize>(v: &mut [T], at: usize, x: T)
     }
 }
 
+/// The elements from `first` up to `end` become x.
+pub fn fill_between<T: Copy>(v: &mut [T], first: usize, end: usize, x: T)
+    requires room { end ≤ length v.old }
+    ensures set { (i : ℕ) (d : T) → first ≤ i → i < end → slice_index_or v.new i d ≡ x }
+    ensures kept { (i : ℕ) (d : T)
+        → (i < first) ⊎ (end ≤ i) → slice_index_or v.new i d ≡ slice_index_or v.old i d }
+{
+    for i in first..end {
+        v[i] = x;
+    }
+}
+
 /// Changes the first n elements by a rule.
 pub fn change_front<T: Copy, R: Change<T>>(rule: R, v: &mut [T], n: usize)
     requires room { n ≤ length v.old }

@@ -27,3 +27,17 @@ pub trait Merge<A, B>: Copy {
         requires { takes self old from }
         ensures { makes self old from result };
 }
+
+/// A rule that makes an element of three of another row.
+pub trait Combine<A, B>: Copy {
+    /// What it asks of the three elements.
+    ghost takes: { Self → A → A → A → Type 0 };
+
+    /// What it makes of them.
+    ghost makes: { Self → A → A → A → B → Type 0 };
+
+    /// The new element.
+    fn combined(self, x: A, y: A, z: A) -> B
+        requires { takes self x y z }
+        ensures { makes self x y z result };
+}

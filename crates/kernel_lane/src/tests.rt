@@ -1,12 +1,15 @@
 // Rows by hand, and each call beside its plain rule at lengths below, at and above the lanes.
-ghost use Rattle.std.specs.Prelude.{◌≡◌, ◌+◌, ◌/◌, ◌%◌, ◌≤◌, ◌<◌, ◌^◌, ◌≤ℤ◌, ◌<ℤ◌, pos, length, ⊤};
+ghost use Rattle.std.specs.Prelude.{◌≡◌, ◌+◌, ◌*◌, ◌/◌, ◌%◌, ◌≤◌, ◌<◌, ◌^◌, ◌≤ℤ◌, ◌<ℤ◌, pos, length, ⊤};
+ghost use Rattle.std.specs.Prelude.{slice_index};
+ghost use Rattle.std.proofs.Common.{rules};
 ghost use Rattle.kernel_lane.specs.Rows.{ForEach};
 ghost use Rattle.kernel_lane.specs.Rules.{IsLaneCount};
 
 use crate::{
-    Change, Merge, change_front, change_part, clamp, expand, fill_part, floor_div, join_pixels,
-    merge_few, merge_front, merge_part, merge_within, mul_add, narrow, pick, shift_left,
-    shift_right, split_pixels, swap_u16, swap_u32, widen,
+    Change, Combine, Element, Merge, change_front, change_part, clamp, combine_part, expand,
+    fill_between, fill_part, floor_div, join_pixels, merge_few, merge_front, merge_part,
+    merge_within, mul_add, narrow, pick, put_elements, shift_left, shift_right, split_pixels,
+    swap_u16, swap_u32, take_elements, widen,
 };
 use std::process::Abort;
 
@@ -228,6 +231,47 @@ impl Merge<u32, u32> for Mean {
     }
 }
 
+// Numbers of two bytes, the higher one first.
+#[derive(Clone, Copy)]
+struct HighFirst;
+
+impl Element<u16> for HighFirst {
+    ghost size = { 2 };
+
+    ghost element = { λ bytes k. 256 * slice_index bytes (2 * k) + slice_index bytes (2 * k + 1) };
+
+    ghost number = { λ x. x };
+
+    ghost holds = { ⊤ };
+
+    ghost fits = { λ _. ⊤ };
+
+    fn taken(self, from: &[u8], k: usize) -> u16 {
+        u16::from(from[2 * k]) * 256 + u16::from(from[2 * k + 1])
+    }
+
+    fn put(self, to: &mut [u8], k: usize, x: u16) {
+        to[2 * k] = (x / 256) as u8;
+        to[2 * k + 1] = (x % 256) as u8;
+    }
+
+    ghost some = { Prim.search rules };
+}
+
+// Half of a number, a third of another and a quarter of one more.
+#[derive(Clone, Copy)]
+struct Shares;
+
+impl Combine<u16, u32> for Shares {
+    ghost takes = { λ _ _ _ _. ⊤ };
+
+    ghost makes = { λ _ x y z s. s ≡ x / 2 + y / 3 + z / 4 };
+
+    fn combined(self, x: u16, y: u16, z: u16) -> u32 {
+        u32::from(x) / 2 + u32::from(y) / 3 + u32::from(z) / 4
+    }
+}
+
 const PLACE: usize = 33;
 
 const START: usize = 7;
@@ -282,6 +326,29 @@ fn check_own_parts<const N: usize>(rt: &impl Abort)
     }
 }
 
+// N elements that are made of those at three places of another row.
+fn check_combined_parts<const N: usize>(rt: &impl Abort)
+    requires short { N ≤ 70 }
+{
+    let mut from = [0u16; 2 * MOST];
+    let mut combined = [0u32; 2 * MOST];
+    for i in 0..2 * MOST {
+        from[i] = sample(i + 200);
+        combined[i] = u32::from(sample(i)) * 65536;
+    }
+    combine_part::<u16, u32, Shares, N>(Shares, &mut combined, PLACE, &from, MOST, START, 0);
+    for i in 0..2 * MOST {
+        let shares = if PLACE <= i && i < PLACE + N {
+            let k = i - PLACE + 200;
+            let first = u32::from(sample(k + MOST)) / 2;
+            first + u32::from(sample(k + START)) / 3 + u32::from(sample(k)) / 4
+        } else {
+            u32::from(sample(i)) * 65536
+        };
+        assert_eq!(rt; combined[i], shares);
+    }
+}
+
 // The first elements, so many of them: those behind them stay.
 fn check_fronts(rt: &impl Abort, len: usize)
     requires short { len ≤ 70 }
@@ -293,8 +360,10 @@ fn check_fronts(rt: &impl Abort, len: usize)
         changed[i] = u32::from(sample(i)) * 65536;
     }
     let mut merged = changed;
+    let mut filled = changed;
     change_front::<u32, Half>(Half, &mut changed, len);
     merge_front::<u16, u32, Remainder>(Remainder, &mut merged, &from, len);
+    fill_between(&mut filled, START, len, 5);
     for i in 0..MOST {
         let x = u32::from(sample(i)) * 65536;
         let (half, rest) = if i < len {
@@ -302,7 +371,47 @@ fn check_fronts(rt: &impl Abort, len: usize)
         } else {
             (x, x)
         };
-        assert_eq!(rt; (changed[i], merged[i]), (half, rest));
+        let same = if START <= i && i < len { 5 } else { x };
+        assert_eq!(rt; (changed[i], merged[i], filled[i]), (half, rest, same));
+    }
+}
+
+const ELEMENTS: usize = START + 4 * MOST;
+
+// Every C-th element taken, and put: other numbers stay, and so do other elements.
+fn check_elements<const C: usize>(rt: &impl Abort, len: usize)
+    requires step { (1 ≤ C) × (C ≤ 4) }
+    requires short { len ≤ 70 }
+{
+    let mut bytes = [0u8; 2 * ELEMENTS];
+    for k in 0..ELEMENTS {
+        let [high, low] = sample(k).to_be_bytes();
+        bytes[2 * k] = high;
+        bytes[2 * k + 1] = low;
+    }
+    let mut numbers = [0u16; 2 * MOST];
+    for i in 0..2 * MOST {
+        numbers[i] = sample(i + 500);
+    }
+    let mut taken = numbers;
+    let mut put = bytes;
+    take_elements::<u16, HighFirst, C>(HighFirst, &bytes, START, len, &mut taken, PLACE);
+    put_elements::<u16, HighFirst, C>(HighFirst, &numbers, PLACE, len, &mut put, START);
+    for i in 0..2 * MOST {
+        let number = if PLACE <= i && i < PLACE + len {
+            sample(START + (i - PLACE) * C)
+        } else {
+            numbers[i]
+        };
+        assert_eq!(rt; taken[i], number);
+    }
+    for k in 0..ELEMENTS {
+        let number = if START <= k && (k - START) % C == 0 && (k - START) / C < len {
+            numbers[PLACE + (k - START) / C]
+        } else {
+            sample(k)
+        };
+        assert_eq!(rt; [put[2 * k], put[2 * k + 1]], number.to_be_bytes());
     }
 }
 
@@ -311,6 +420,17 @@ fn fronts_equal_their_plain_rules(rt: HostRuntime) {
     for len in [0, 1, 7, 8, 9, 31, 32, 33, 70usize] {
         assert!(rt; len <= MOST);
         check_fronts(&rt, len);
+    }
+}
+
+#[test]
+fn elements_equal_their_plain_rules(rt: HostRuntime) {
+    for len in [0, 1, 7, 8, 9, 31, 32, 33, 70usize] {
+        assert!(rt; len <= MOST);
+        check_elements::<1>(&rt, len);
+        check_elements::<2>(&rt, len);
+        check_elements::<3>(&rt, len);
+        check_elements::<4>(&rt, len);
     }
 }
 
@@ -338,6 +458,19 @@ fn parts_equal_their_plain_rules(rt: HostRuntime) {
     check_parts::<32>(&rt);
     check_parts::<33>(&rt);
     check_parts::<70>(&rt);
+}
+
+#[test]
+fn combined_parts_equal_their_plain_rules(rt: HostRuntime) {
+    check_combined_parts::<0>(&rt);
+    check_combined_parts::<1>(&rt);
+    check_combined_parts::<7>(&rt);
+    check_combined_parts::<8>(&rt);
+    check_combined_parts::<9>(&rt);
+    check_combined_parts::<31>(&rt);
+    check_combined_parts::<32>(&rt);
+    check_combined_parts::<33>(&rt);
+    check_combined_parts::<70>(&rt);
 }
 
 // Bytes of C values for each of 64 pixels, taken apart and put together again.

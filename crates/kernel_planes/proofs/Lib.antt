@@ -4,4 +4,3 @@ pub mod Parts
 pub mod PlaneRows
 pub mod Positions
 pub mod RowFrames
-pub mod Written

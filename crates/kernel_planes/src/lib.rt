@@ -7,6 +7,7 @@ mod palette;
 mod planes;
 mod read;
 mod rest;
+mod rules;
 mod scatter;
 mod stride;
 mod value;

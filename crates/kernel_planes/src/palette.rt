@@ -1,19 +1,53 @@
 // The colours of the pixels of a block, looked up in a palette.
-ghost use Rattle.std.specs.Prelude.{◌≡◌, ℕ, ◌+◌, ◌*◌, ◌^◌, ◌<◌, ◌≤◌, ◌⊎◌, length, slice_index_or};
+ghost use Rattle.std.specs.Prelude.{◌≡◌, ℕ, ◌+◌, ◌*◌, ◌^◌, ◌<◌, ◌≤◌, ◌⊎◌, length};
+ghost use Rattle.std.specs.Prelude.{slice_index, slice_index_or};
 ghost use Rattle.kernel_planes.specs.Block.{Holds, AreBelow, colour_byte, colour_in};
 
 use crate::value::fill;
 use crate::whole_number::WholeNumber;
+use kernel_lane::{Merge, merge_front};
 
-// A byte of the entry of an index, which stands at `at`.
-fn colour(indices: &[u8], palette: &[u8], at: usize, byte: usize) -> u32
-    requires at { at < length indices.now }
-    requires palette { 1024 ≤ length palette.now }
+// A byte of the entry of an index.
+#[derive(Clone, Copy)]
+struct Lookup<'a> {
+    palette: &'a [u8],
+    byte: usize,
+}
+
+impl<'a, W: WholeNumber> Merge<u8, W> for Lookup<'a> {
+    ghost takes = { λ r _ index. (1024 ≤ length r.palette.now) × (r.byte < 4) × (2 ^ 8 ≤ 2 ^ W.bits) };
+
+    ghost makes = { λ r _ index y. W.number y ≡ slice_index r.palette.now (4 * index + r.byte) };
+
+    fn merged(self, _old: W, from: u8) -> W {
+        W::narrow(u32::from(self.palette[4 * usize::from(from) + self.byte]))
+    }
+}
+
+// Value v of the first n pixels becomes a byte of their entries.
+fn look_up<W: WholeNumber>(
+    indices: &[u8],
+    palette: &[u8],
+    x: usize,
+    byte: usize,
+    n: usize,
+    v: usize,
+    values: &mut [W],
+)
+    requires bits { 2 ^ 8 ≤ 2 ^ W.bits }
+    requires block { (v < 4) × (n ≤ 64) × (length values.old ≡ 256) }
     requires byte { byte < 4 }
-    ensures value { result ≡ colour_in indices.now palette.now at byte }
-    ensures small { result < 2 ^ 8 }
+    requires indices { x + n ≤ length indices.now }
+    requires palette { 1024 ≤ length palette.now }
+    ensures set { (i : ℕ) (d : W) → i < n
+        → W.number (slice_index_or values.new (64 * v + i) d)
+        ≡ colour_in indices.now palette.now (x + i) byte }
+    ensures kept { (j : ℕ) (d : W) → (j < 64 * v) ⊎ (64 * v + n ≤ j)
+        → slice_index_or values.new j d ≡ slice_index_or values.old j d }
 {
-    u32::from(palette[4 * usize::from(indices[at]) + byte])
+    let lookup = Lookup { palette, byte };
+    let value = &mut values[64 * v..64 * v + n];
+    merge_front(lookup, value, &indices[x..x + n], n);
 }
 
 // Fills value v of the first n pixels with a byte of their entries, and that of the others with 0.
@@ -40,9 +74,7 @@ fn read_colour<W: WholeNumber>(
         → slice_index_or values.new j d ≡ slice_index_or values.old j d }
 {
     fill(values, v, W::narrow(0));
-    for i in 0..n {
-        values[64 * v + i] = W::narrow(colour(indices, palette, x + i, byte));
-    }
+    look_up(indices, palette, x, byte, n, v, values);
 }
 
 // The byte of value v in an entry: blue, green, red and alpha stand in this order.

@@ -4,14 +4,15 @@ ghost use Rattle.std.specs.Prelude.{sum};
 ghost use Rattle.std.specs.Prelude.{slice_index, slice_index_or};
 ghost use Rattle.op_list.specs.Types.{bits, bytes, is_whole_type};
 ghost use Rattle.op_list.specs.Pixel.{element};
-ghost use Rattle.op_list.specs.declared.types.PixType.TheVariants.{U8, U16, U32};
 ghost use Rattle.kernel_planes.specs.Block.{Holds, AreBelow};
 ghost use Rattle.kernel_planes.specs.Planes.{row_at, row_element, rows_of};
 
-use crate::gather::{gather_bytes, gather_double_words, gather_words};
+use crate::gather::gather;
 use crate::planes::Planes;
+use crate::rules::{Bytes, DoubleWords, Words};
 use crate::stride::Stride;
 use crate::whole_number::WholeNumber;
+use kernel_lane::{Element, fill_part};
 use op_list::PixType;
 
 // Fills value v of the first n pixels.
@@ -36,76 +37,38 @@ fn read_value<W: WholeNumber>(
         → slice_index_or values.new j d ≡ slice_index_or values.old j d }
 {
     match elem {
-        PixType::U8 => read_bytes(from, stride, n, v, values),
-        PixType::U16 => read_words(from, stride, n, v, values),
-        PixType::U32 => read_double_words(from, stride, n, v, values),
+        PixType::U8 => read_elements(Bytes, from, stride, n, v, values),
+        PixType::U16 => read_elements(Words, from, stride, n, v, values),
+        PixType::U32 => read_elements(DoubleWords, from, stride, n, v, values),
         PixType::Rat => {}
     }
 }
 
-// The same, of 8 bits.
-fn read_bytes<W: WholeNumber>(from: &[u8], stride: Stride, n: usize, v: usize, values: &mut [W])
-    requires bits { 2 ^ 8 ≤ 2 ^ W.bits }
-    requires block { (v < 4) × (n ≤ 64) × (length values.old ≡ 256) }
-    requires step { (0 < stride.step) × (stride.step ≤ 4) }
-    requires room { (i : ℕ) → i < n → (stride.start + i * stride.step + 1) ≤ length from.now }
-    ensures set { (i : ℕ) (d : W) → i < n
-        → W.number (slice_index_or values.new (64 * v + i) d)
-        ≡ element U8 from.now (stride.start + i * stride.step) }
-    ensures kept { (j : ℕ) (d : W) → (j < 64 * v) ⊎ (64 * v + n ≤ j)
-        → slice_index_or values.new j d ≡ slice_index_or values.old j d }
-{
-    match stride.step {
-        1 => gather_bytes::<W, 1>(from, stride.start, n, v, values),
-        2 => gather_bytes::<W, 2>(from, stride.start, n, v, values),
-        3 => gather_bytes::<W, 3>(from, stride.start, n, v, values),
-        _ => gather_bytes::<W, 4>(from, stride.start, n, v, values),
-    }
-}
-
-// The same, of 16 bits.
-fn read_words<W: WholeNumber>(from: &[u8], stride: Stride, n: usize, v: usize, values: &mut [W])
-    requires bits { 2 ^ 16 ≤ 2 ^ W.bits }
-    requires block { (v < 4) × (n ≤ 64) × (length values.old ≡ 256) }
-    requires step { (0 < stride.step) × (stride.step ≤ 4) }
-    requires room { (i : ℕ) → i < n → (stride.start + i * stride.step + 1) * 2 ≤ length from.now }
-    ensures set { (i : ℕ) (d : W) → i < n
-        → W.number (slice_index_or values.new (64 * v + i) d)
-        ≡ element U16 from.now (stride.start + i * stride.step) }
-    ensures kept { (j : ℕ) (d : W) → (j < 64 * v) ⊎ (64 * v + n ≤ j)
-        → slice_index_or values.new j d ≡ slice_index_or values.old j d }
-{
-    match stride.step {
-        1 => gather_words::<W, 1>(from, stride.start, n, v, values),
-        2 => gather_words::<W, 2>(from, stride.start, n, v, values),
-        3 => gather_words::<W, 3>(from, stride.start, n, v, values),
-        _ => gather_words::<W, 4>(from, stride.start, n, v, values),
-    }
-}
-
-// The same, of 32 bits.
-fn read_double_words<W: WholeNumber>(
+// The same by a rule for the elements.
+fn read_elements<W: WholeNumber, R: Element<W>>(
+    rule: R,
     from: &[u8],
     stride: Stride,
     n: usize,
     v: usize,
     values: &mut [W],
 )
-    requires bits { 2 ^ 32 ≤ 2 ^ W.bits }
+    requires bits { R.holds }
     requires block { (v < 4) × (n ≤ 64) × (length values.old ≡ 256) }
     requires step { (0 < stride.step) × (stride.step ≤ 4) }
-    requires room { (i : ℕ) → i < n → (stride.start + i * stride.step + 1) * 4 ≤ length from.now }
+    requires room { (i : ℕ) → i < n → (stride.start + i * stride.step + 1) * R.size
+        ≤ length from.now }
     ensures set { (i : ℕ) (d : W) → i < n
-        → W.number (slice_index_or values.new (64 * v + i) d)
-        ≡ element U32 from.now (stride.start + i * stride.step) }
+        → R.number (slice_index_or values.new (64 * v + i) d)
+        ≡ R.element from.now (stride.start + i * stride.step) }
     ensures kept { (j : ℕ) (d : W) → (j < 64 * v) ⊎ (64 * v + n ≤ j)
         → slice_index_or values.new j d ≡ slice_index_or values.old j d }
 {
     match stride.step {
-        1 => gather_double_words::<W, 1>(from, stride.start, n, v, values),
-        2 => gather_double_words::<W, 2>(from, stride.start, n, v, values),
-        3 => gather_double_words::<W, 3>(from, stride.start, n, v, values),
-        _ => gather_double_words::<W, 4>(from, stride.start, n, v, values),
+        1 => gather::<W, R, 1>(rule, from, stride.start, n, v, values),
+        2 => gather::<W, R, 2>(rule, from, stride.start, n, v, values),
+        3 => gather::<W, R, 3>(rule, from, stride.start, n, v, values),
+        _ => gather::<W, R, 4>(rule, from, stride.start, n, v, values),
     }
 }
 
@@ -224,9 +187,7 @@ pub fn read_block<W: WholeNumber>(
         (λ v i. row_element elem planes.now (rows_of input.now) (x + i) v) }
     ensures small { AreBelow W.number values.new 4 (2 ^ bits elem) }
 {
-    for value in values.iter_mut() {
-        *value = W::narrow(0);
-    }
+    fill_part::<W, 256>(values, 0, W::narrow(0));
     let mut before = 0;
     for p in 0..4 {
         let count = usize::from(planes[p]);

@@ -2,6 +2,7 @@
 ghost use Rattle.std.specs.Prelude.{◌≡◌, ℕ, ◌+◌, ◌*◌, ◌<◌, ◌≤◌, ◌⊎◌, length, slice_index_or};
 
 use crate::whole_number::WholeNumber;
+use kernel_lane::fill_between;
 
 // Value v of each pixel from pixel n on becomes 0.
 fn clear_value<W: WholeNumber>(v: usize, n: usize, values: &mut [W])
@@ -11,9 +12,7 @@ fn clear_value<W: WholeNumber>(v: usize, n: usize, values: &mut [W])
     ensures kept { (j : ℕ) (d : W) → (j < 64 * v + n) ⊎ (64 * v + 64 ≤ j)
         → slice_index_or values.new j d ≡ slice_index_or values.old j d }
 {
-    for i in n..64 {
-        values[64 * v + i] = W::narrow(0);
-    }
+    fill_between(values, 64 * v + n, 64 * v + 64, W::narrow(0));
 }
 
 /// The four values of each pixel from pixel n on become 0.

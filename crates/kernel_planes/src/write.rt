@@ -3,13 +3,14 @@ ghost use Rattle.std.specs.Prelude.{◌≡◌, ◌≢◌, ℕ, ◌+◌, ◌*◌,
 ghost use Rattle.std.specs.Prelude.{sum, slice_index, slice_index_or};
 ghost use Rattle.op_list.specs.Types.{bits, bytes, is_whole_type};
 ghost use Rattle.op_list.specs.Pixel.{element};
-ghost use Rattle.op_list.specs.declared.types.PixType.TheVariants.{U8, U16, U32};
 ghost use Rattle.kernel_planes.specs.Block.{AreBelow};
 ghost use Rattle.kernel_planes.specs.Planes.{row_at, row_element, row_list};
 
-use crate::scatter::{scatter_bytes, scatter_double_words, scatter_words};
+use crate::rules::{Bytes, DoubleWords, Words};
+use crate::scatter::scatter;
 use crate::stride::Stride;
 use crate::whole_number::WholeNumber;
+use kernel_lane::Element;
 use op_list::PixType;
 
 // Sets value v of the first n pixels.
@@ -35,79 +36,38 @@ fn write_value<W: WholeNumber>(
         → element elem to.new k ≡ element elem to.old k }
 {
     match elem {
-        PixType::U8 => write_bytes(values, v, n, stride, to),
-        PixType::U16 => write_words(values, v, n, stride, to),
-        PixType::U32 => write_double_words(values, v, n, stride, to),
+        PixType::U8 => write_elements(Bytes, values, v, n, stride, to),
+        PixType::U16 => write_elements(Words, values, v, n, stride, to),
+        PixType::U32 => write_elements(DoubleWords, values, v, n, stride, to),
         PixType::Rat => {}
     }
 }
 
-// The same, of 8 bits.
-fn write_bytes<W: WholeNumber>(values: &[W], v: usize, n: usize, stride: Stride, to: &mut [u8])
-    requires small { (i : ℕ) (d : W) → i < n
-        → W.number (slice_index_or values.now (64 * v + i) d) < 2 ^ 8 }
-    requires block { (v < 4) × (n ≤ 64) × (length values.now ≡ 256) }
-    requires step { (0 < stride.step) × (stride.step ≤ 4) }
-    requires room { (i : ℕ) → i < n → (stride.start + i * stride.step + 1) ≤ length to.old }
-    ensures set { (i : ℕ) (d : W) → i < n
-        → element U8 to.new (stride.start + i * stride.step)
-        ≡ W.number (slice_index_or values.now (64 * v + i) d) }
-    ensures kept { (k : ℕ) → ((i : ℕ) → i < n → k ≢ stride.start + i * stride.step)
-        → element U8 to.new k ≡ element U8 to.old k }
-{
-    match stride.step {
-        1 => scatter_bytes::<W, 1>(values, v, n, stride.start, to),
-        2 => scatter_bytes::<W, 2>(values, v, n, stride.start, to),
-        3 => scatter_bytes::<W, 3>(values, v, n, stride.start, to),
-        _ => scatter_bytes::<W, 4>(values, v, n, stride.start, to),
-    }
-}
-
-// The same, of 16 bits.
-fn write_words<W: WholeNumber>(values: &[W], v: usize, n: usize, stride: Stride, to: &mut [u8])
-    requires small { (i : ℕ) (d : W) → i < n
-        → W.number (slice_index_or values.now (64 * v + i) d) < 2 ^ 16 }
-    requires block { (v < 4) × (n ≤ 64) × (length values.now ≡ 256) }
-    requires step { (0 < stride.step) × (stride.step ≤ 4) }
-    requires room { (i : ℕ) → i < n → (stride.start + i * stride.step + 1) * 2 ≤ length to.old }
-    ensures set { (i : ℕ) (d : W) → i < n
-        → element U16 to.new (stride.start + i * stride.step)
-        ≡ W.number (slice_index_or values.now (64 * v + i) d) }
-    ensures kept { (k : ℕ) → ((i : ℕ) → i < n → k ≢ stride.start + i * stride.step)
-        → element U16 to.new k ≡ element U16 to.old k }
-{
-    match stride.step {
-        1 => scatter_words::<W, 1>(values, v, n, stride.start, to),
-        2 => scatter_words::<W, 2>(values, v, n, stride.start, to),
-        3 => scatter_words::<W, 3>(values, v, n, stride.start, to),
-        _ => scatter_words::<W, 4>(values, v, n, stride.start, to),
-    }
-}
-
-// The same, of 32 bits.
-fn write_double_words<W: WholeNumber>(
+// The same by a rule for the elements.
+fn write_elements<W: WholeNumber, R: Element<W>>(
+    rule: R,
     values: &[W],
     v: usize,
     n: usize,
     stride: Stride,
     to: &mut [u8],
 )
-    requires small { (i : ℕ) (d : W) → i < n
-        → W.number (slice_index_or values.now (64 * v + i) d) < 2 ^ 32 }
+    requires small { (i : ℕ) (d : W) → i < n → R.fits (slice_index_or values.now (64 * v + i) d) }
     requires block { (v < 4) × (n ≤ 64) × (length values.now ≡ 256) }
     requires step { (0 < stride.step) × (stride.step ≤ 4) }
-    requires room { (i : ℕ) → i < n → (stride.start + i * stride.step + 1) * 4 ≤ length to.old }
+    requires room { (i : ℕ) → i < n → (stride.start + i * stride.step + 1) * R.size
+        ≤ length to.old }
     ensures set { (i : ℕ) (d : W) → i < n
-        → element U32 to.new (stride.start + i * stride.step)
-        ≡ W.number (slice_index_or values.now (64 * v + i) d) }
+        → R.element to.new (stride.start + i * stride.step)
+        ≡ R.number (slice_index_or values.now (64 * v + i) d) }
     ensures kept { (k : ℕ) → ((i : ℕ) → i < n → k ≢ stride.start + i * stride.step)
-        → element U32 to.new k ≡ element U32 to.old k }
+        → R.element to.new k ≡ R.element to.old k }
 {
     match stride.step {
-        1 => scatter_double_words::<W, 1>(values, v, n, stride.start, to),
-        2 => scatter_double_words::<W, 2>(values, v, n, stride.start, to),
-        3 => scatter_double_words::<W, 3>(values, v, n, stride.start, to),
-        _ => scatter_double_words::<W, 4>(values, v, n, stride.start, to),
+        1 => scatter::<W, R, 1>(rule, values, v, n, stride.start, to),
+        2 => scatter::<W, R, 2>(rule, values, v, n, stride.start, to),
+        3 => scatter::<W, R, 3>(rule, values, v, n, stride.start, to),
+        _ => scatter::<W, R, 4>(rule, values, v, n, stride.start, to),
     }
 }
 

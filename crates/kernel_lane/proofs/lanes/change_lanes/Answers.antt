@@ -1,4 +1,4 @@
-use Rattle.std.proofs.Common.{◌≡◌, ◌+◌, ◌-◌, ◌<◌, arith}
+use Rattle.std.proofs.Common.{◌≡◌, ◌+◌, ◌-◌, arith}
 use Rattle.kernel_lane.proofs.lanes.change_lanes.Goals as goal
 
 pub returns-clause-set : goal.returns-clause-set

@@ -6,9 +6,6 @@ use Rattle.kernel_planes.specs.Block.{AreBelow}
 use Rattle.kernel_planes.specs.Planes.{row_at, rows_of}
 use Rattle.kernel_planes.proofs.read.read_block.Given as goal
 
-abbrev pub invariant-loop-value : goal.invariant-loop-value
-invariant-loop-value g l = (j : ℕ) (d : _) → j < l.value-index → g.W.WholeNumber.number (slice_index_or l.values j d) ≡ 0
-
 abbrev pub invariant-loop-p : goal.invariant-loop-p
 invariant-loop-p g l = record {
   before : l.before ≡ sum (take l.p l.planes);

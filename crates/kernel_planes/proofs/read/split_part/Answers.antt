@@ -1,4 +1,4 @@
-use Rattle.std.proofs.Common.{rules, ◌≡◌, ◌<◌, ◌≤◌, ◌+◌, ◌-◌, ◌*◌, ◌∙◌, ap, length, arith}
+use Rattle.std.proofs.Common.{rules, ◌≡◌, ◌+◌, ◌-◌, ◌*◌, ◌∙◌, ap, length, arith}
 use Rattle.kernel_planes.proofs.Parts.{part_is, pixel_below, put_back}
 use Rattle.kernel_planes.proofs.read.split_part.Goals as goal
 

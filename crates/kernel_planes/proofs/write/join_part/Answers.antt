@@ -1,4 +1,4 @@
-use Rattle.std.proofs.Common.{rules, ◌≡◌, ◌<◌, ◌≤◌, ◌+◌, ◌*◌, ◌∙◌, ap, length, slice_index, slice_index_or, arith}
+use Rattle.std.proofs.Common.{rules, ◌≡◌, ◌+◌, ◌*◌, ◌∙◌, ap, length, slice_index_or, arith}
 use Rattle.kernel_planes.proofs.Parts.{part_is, pixel_below, put_is}
 use Rattle.kernel_planes.proofs.write.join_part.Goals as goal
 
