@@ -1,9 +1,9 @@
 -- Fractions become whole numbers: what a block holds, and its bounds.
 use Rattle.std.proofs.Common.{◌≡◌, ℕ, ◌+◌, ◌*◌, ◌/◌, ◌%◌, ◌^◌, ◌<◌, ◌≤◌, Bool, true, List, ℤ, pos, negsuc, length, slice_index_or}
-use Rattle.std.proofs.Common.{sym, ap, ◌∙◌, arith}
+use Rattle.std.proofs.Common.{sym, ap, ◌∙◌, arith, subst}
 use Rattle.std.specs.Prelude.{◌≤ℤ◌, unsigned_abs}
 use Rattle.std.specs.Int.{Width, int_div_euclid}
-use Rattle.std.proofs.Math.Nat.{mod-eq_of_lt, div-lt_iff_lt-mul}
+use Rattle.std.proofs.Math.Nat.{mod-eq_of_lt, div-lt_iff_lt-mul, div-div-eq-div-mul, one-le-pow}
 use Rattle.std.proofs.lemmas.Int.{ints}
 use Rattle.frac_math.specs.Fraction.{floor}
 use Rattle.frac_math.specs.Standing.{Stands}
@@ -23,7 +23,7 @@ use Rattle.op_list.specs.Whole.{modulo}
 use Rattle.op_list.specs.Apply.{apply, converted}
 use Rattle.kernel_step.specs.declared.form.Form.{Form}
 use Rattle.kernel_step.specs.Forms.{denominator, AreNarrowed, IsBounded, Performs}
-use Rattle.kernel_step.specs.ValueSteps.{AreFloors, AreIn, IsQuotient}
+use Rattle.kernel_step.specs.ValueSteps.{AreFloors, AreIn, IsEvenQuotient, IsQuotient}
 use Rattle.kernel_step.specs.declared.form.Extent.{Extent}
 use Rattle.kernel_step.proofs.Fours.{four_at}
 use Rattle.kernel_step.proofs.Kernels.{some_element}
@@ -41,6 +41,37 @@ quotient_below n b d m some small below =
 floor_small : (n : ℤ) (d m : ℕ) → pos 0 ≤ℤ n → unsigned_abs n / d < m → modulo (int_div_euclid n (pos d)) m ≡ unsigned_abs n / d
 floor_small (pos n) d m low small = mod-eq_of_lt small
 floor_small (negsuc n) d m low small = absurd (omega (arith, ints))
+
+-- a number without its lowest bits
+pub part_below : (n most : ℤ) (zeros bound : ℕ) → pos 0 ≤ℤ n → n ≤ℤ most → unsigned_abs most / 2 ^ zeros ≤ bound
+    → unsigned_abs n / 2 ^ zeros ≤ bound
+part_below n most zeros bound low high below =
+    let small : unsigned_abs n ≤ unsigned_abs most = abs_grows n most low high in
+    let less = quotient_below (unsigned_abs n) (unsigned_abs most) (2 ^ zeros) (bound + 1) (one-le-pow zeros 2 (omega arith)) small (omega (arith, below)) in
+    omega (arith, less)
+  where
+    abs_grows : (n most : ℤ) → pos 0 ≤ℤ n → n ≤ℤ most → unsigned_abs n ≤ unsigned_abs most
+    abs_grows (pos m) (pos k) low high = omega (arith, ints)
+    abs_grows (pos m) (negsuc k) low high = omega (arith, ints)
+    abs_grows (negsuc m) k low high = omega (arith, ints)
+
+-- quotients of numbers without their lowest bits are floors
+pub even_quotients_are_floors : {W N : Type 0} (digits : W → ℕ) (value : N → ℤ) (count : ℕ) (numbers : List N) (v : ℕ) (old : Extent)
+    (zeros d bound factor shift : ℕ) (values : List W)
+    → IsEvenQuotient count old zeros d bound factor shift → AreIn value numbers v old
+    → ((i : ℕ) (x : W) (e : N) → i < 64
+    → digits (slice_index_or values (64 * v + i) x) ≡ unsigned_abs (value (slice_index_or numbers (64 * v + i) e)) / 2 ^ zeros / d)
+    → AreFloors digits value count numbers v (unsigned_abs old.denominator) values
+even_quotients_are_floors {W} {N} digits value count numbers v old zeros d bound factor shift values is within set i x e below =
+    let n = value (slice_index_or numbers (64 * v + i) e) in
+    let range = within i e below in
+    let low : pos 0 ≤ℤ n = omega (arith, ints, is.least, range.0) in
+    let part : unsigned_abs n / 2 ^ zeros ≤ bound = part_below n old.greatest zeros bound low range.1 is.greatest in
+    let once : unsigned_abs n / 2 ^ zeros / d ≡ unsigned_abs n / (2 ^ zeros * d) = div-div-eq-div-mul (unsigned_abs n) (2 ^ zeros) d in
+    let small : unsigned_abs n / 2 ^ zeros / d < 2 ^ count =
+    quotient_below (unsigned_abs n / 2 ^ zeros) bound d (2 ^ count) is.reciprocal.some part is.fits in
+    set i x e below ∙ once ∙ sym (floor_small n (2 ^ zeros * d) (2 ^ count) low (subst (λ t. t < 2 ^ count) once small))
+    ∙ ap (λ t. modulo (int_div_euclid n (pos t)) (2 ^ count)) is.same
 
 -- quotients by a multiplication are floors
 pub quotients_are_floors : {W N : Type 0} (digits : W → ℕ) (value : N → ℤ) (count : ℕ) (numbers : List N) (v : ℕ) (old : Extent)

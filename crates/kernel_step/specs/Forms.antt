@@ -172,7 +172,7 @@ pub record IsRow (width : Width) (before : Form) (coefficients : List ℚ) (fact
       → (extent.least ≤ℤ row_sum factors numbers 4) × (row_sum factors numbers 4 ≤ℤ extent.greatest)
 
 abbrev pub no_divisor : Divisor
-no_divisor = Short (record { d = 0; bound = 0; factor = 0; shift = 0 })
+no_divisor = Short 0 (record { d = 0; bound = 0; factor = 0; shift = 0 })
 
 abbrev pub divisor_at : Form → ℕ → Divisor
 divisor_at form v = slice_index_or form.divisors v no_divisor

@@ -179,9 +179,17 @@ pub record IsQuotient (count : ℕ) (old : Extent) (d bound factor shift : ℕ) 
   pub greatest : old.greatest ≤ℤ pos bound
   pub fits : bound / d < 2 ^ count
 
+-- The same after a division by a power of two that divides the denominator: such a quotient loses the lowest bits of a number alone.
+pub record IsEvenQuotient (count : ℕ) (old : Extent) (zeros d bound factor shift : ℕ) : Type 0 where
+  pub reciprocal : IsReciprocal d bound factor shift
+  pub same : 2 ^ zeros * d ≡ unsigned_abs old.denominator
+  pub least : pos 0 ≤ℤ old.least
+  pub greatest : unsigned_abs old.greatest / 2 ^ zeros ≤ bound
+  pub fits : bound / d < 2 ^ count
+
 -- the numbers of an extent are divided by its denominator
 abbrev pub IsDivided : Width → ℕ → Extent → Divisor → Type 0
-IsDivided width count old (Short by) = (by.shift < 64) × IsQuotient count old by.d by.bound by.factor by.shift
+IsDivided width count old (Short zeros by) = (by.shift < 64) × (zeros < 32) × IsEvenQuotient count old zeros by.d by.bound by.factor by.shift
 IsDivided width count old (Long by) = (by.shift < 128) × IsQuotient count old by.d by.bound by.factor by.shift
 IsDivided width count old Plain = (pos 0 <ℤ old.denominator) × FitsSigned width old.denominator
 

@@ -31,8 +31,9 @@ pub struct LongReciprocal {
 /// How the numbers of a value are divided by their denominator.
 #[derive(Clone, Copy, Debug)]
 pub enum Divisor {
-    /// By a multiplication of 32 bits by 32.
-    Short(Reciprocal),
+    /// By a multiplication of 32 bits by 32, once the numbers have lost their lowest bits: so many as
+    /// are 0 in the denominator.
+    Short { zeros: u32, by: Reciprocal },
     /// By a multiplication of 64 bits by 64.
     Long(LongReciprocal),
     /// By a division, for any numbers.

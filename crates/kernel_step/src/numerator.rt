@@ -1,5 +1,5 @@
 ghost use Rattle.std.specs.Prelude.{◌≡◌, ◌*◌, ◌^◌, ◌<◌, ℤ, pos, ◌+ℤ◌, ◌-ℤ◌, ◌*ℤ◌, ◌≤ℤ◌, ◌<ℤ◌};
-ghost use Rattle.std.specs.Prelude.{FitsSigned};
+ghost use Rattle.std.specs.Prelude.{FitsSigned, ◌/◌, unsigned_abs};
 ghost use Rattle.std.specs.Int.{Width, int_div_euclid, w32, w64, w128};
 ghost use Rattle.op_list.specs.Whole.{modulo};
 ghost use Rattle.kernel_step.specs.Rules.{with_product, but_at_least, but_at_most};
@@ -38,6 +38,15 @@ pub trait Numerator: Copy {
         requires fits { FitsSigned width (with_product (value self) (value from) (value k)) }
         ensures { value result ≡ with_product (value self) (value from) (value k) };
 
+    /// The number with k times another one, where that lies from 0 to 2^31 - 1, and k from -2^31 to
+    /// 2^31 - 1.
+    fn raised_signed(self, from: Self, k: Self) -> Self
+        requires from { (pos 0 ≤ℤ value from) × (value from <ℤ pos (2 ^ 31)) }
+        requires k { FitsSigned w32 (value k) }
+        requires product { FitsSigned width (value k *ℤ value from) }
+        requires fits { FitsSigned width (with_product (value self) (value from) (value k)) }
+        ensures { value result ≡ with_product (value self) (value from) (value k) };
+
     /// k times the number, where it lies from 0 to 2^31 - 1, and k from 0 to 2^32 - 1.
     fn times_short(self, k: Self) -> Self
         requires from { (pos 0 ≤ℤ value self) × (value self <ℤ pos (2 ^ 31)) }
@@ -63,11 +72,12 @@ pub trait Numerator: Copy {
     fn but_at_most(self, greatest: Self) -> Self
         ensures { value result ≡ but_at_most (value greatest) (value self) };
 
-    /// The number, where 32 bits hold it.
-    fn low(self) -> u32
+    /// The number without its lowest bits, where 32 bits hold that.
+    fn above(self, zeros: u32) -> u32
+        requires zeros { zeros < 32 }
         requires least { pos 0 ≤ℤ value self }
-        requires greatest { value self <ℤ pos (2 ^ 32) }
-        ensures { pos result ≡ value self };
+        requires greatest { unsigned_abs (value self) / 2 ^ zeros < 2 ^ 32 }
+        ensures { result ≡ unsigned_abs (value self) / 2 ^ zeros };
 
     /// The number, where 64 bits hold it.
     fn long(self) -> u64
@@ -105,6 +115,11 @@ impl Numerator for i32 {
         self + k * from
     }
 
+    #[tactic(auto, unfolding(crate::specs::Rules::with_product))]
+    fn raised_signed(self, from: i32, k: i32) -> i32 {
+        self + k * from
+    }
+
     fn times(self, k: i32) -> i32 {
         k * self
     }
@@ -127,8 +142,8 @@ impl Numerator for i32 {
         self.min(greatest)
     }
 
-    fn low(self) -> u32 {
-        self as u32
+    fn above(self, zeros: u32) -> u32 {
+        self as u32 >> zeros
     }
 
     fn long(self) -> u64 {
@@ -158,6 +173,33 @@ fn lowered(sum: i64, from: u32, m: u32) -> i64
     sum - product as i64
 }
 
+// A product less 2^31 times its second factor. Its one multiplication is that of two numbers of 32
+// bits without a sign, which the vectors of each processor have.
+fn product_below(m: u32, from: i64) -> i64
+    requires { (pos 0 ≤ℤ from) × (from <ℤ pos (2 ^ 31)) }
+    ensures { result ≡ pos (m * unsigned_abs from) -ℤ pos (2 ^ 31 * unsigned_abs from) }
+{
+    let product = u64::from(m) * u64::from(from as u32);
+    product as i64 - 2_147_483_648 * from
+}
+
+// The number that is 2^31 above k.
+fn lifted(k: i64) -> u32
+    requires { FitsSigned w32 k }
+    ensures { pos result ≡ k +ℤ pos (2 ^ 31) }
+{
+    (k + 2_147_483_648) as u32
+}
+
+// k times a number that lies from 0 to 2^31 - 1.
+fn signed_product(k: i64, from: i64) -> i64
+    requires k { FitsSigned w32 k }
+    requires from { (pos 0 ≤ℤ from) × (from <ℤ pos (2 ^ 31)) }
+    ensures { result ≡ k *ℤ from }
+{
+    product_below(lifted(k), from)
+}
+
 impl Numerator for i64 {
     ghost width = { w64 };
 
@@ -179,6 +221,11 @@ impl Numerator for i64 {
 
     fn lowered_short(self, from: i64, k: i64) -> i64 {
         lowered(self, from as u32, magnitude(k))
+    }
+
+    #[tactic(auto, unfolding(crate::specs::Rules::with_product))]
+    fn raised_signed(self, from: i64, k: i64) -> i64 {
+        self + signed_product(k, from)
     }
 
     fn times(self, k: i64) -> i64 {
@@ -203,8 +250,8 @@ impl Numerator for i64 {
         self.min(greatest)
     }
 
-    fn low(self) -> u32 {
-        self as u32
+    fn above(self, zeros: u32) -> u32 {
+        (self as u64 >> zeros) as u32
     }
 
     fn long(self) -> u64 {
@@ -240,6 +287,11 @@ impl Numerator for i128 {
         self + k * from
     }
 
+    #[tactic(auto, unfolding(crate::specs::Rules::with_product))]
+    fn raised_signed(self, from: i128, k: i128) -> i128 {
+        self + k * from
+    }
+
     fn times(self, k: i128) -> i128 {
         k * self
     }
@@ -262,8 +314,8 @@ impl Numerator for i128 {
         self.min(greatest)
     }
 
-    fn low(self) -> u32 {
-        self as u32
+    fn above(self, zeros: u32) -> u32 {
+        (self as u128 >> zeros) as u32
     }
 
     fn long(self) -> u64 {

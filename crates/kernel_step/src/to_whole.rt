@@ -9,7 +9,7 @@ ghost use Rattle.op_list.specs.Whole.{modulo};
 ghost use Rattle.kernel_step.specs.Forms.{AreNarrowed, IsBounded, IsNarrowed, Performs, bits_of};
 ghost use Rattle.kernel_step.specs.Forms.{extent_at, width_of};
 ghost use Rattle.kernel_step.specs.ValueSteps.{AreFloors, AreIn, IsDivided, IsQuotient};
-ghost use Rattle.kernel_step.specs.ValueSteps.{IsReciprocal};
+ghost use Rattle.kernel_step.specs.ValueSteps.{IsEvenQuotient, IsReciprocal};
 
 use crate::form::{
     Divisor, Extent, Form, LongReciprocal, NO_DIVISOR, NumberWidth, Reciprocal, Storage,
@@ -58,42 +58,53 @@ fn lowest(n: u32, to: PixType) -> u32
     }
 }
 
-// The quotient of a number by a multiplication of 32 bits.
+// The quotient of a number by a multiplication of 32 bits, once it has lost its lowest bits.
 #[derive(Clone, Copy)]
 struct ShortQuotient {
+    zeros: u32,
     by: Reciprocal,
 }
 
 impl<W: WholeNumber, N: Numerator> Merge<N, W> for ShortQuotient {
     ghost takes = { λ r _ x. IsReciprocal r.by.d r.by.bound r.by.factor r.by.shift
-        × (r.by.shift < 64) × (pos 0 ≤ℤ N.value x) × (N.value x ≤ℤ pos r.by.bound)
+        × (r.by.shift < 64) × (r.zeros < 32) × (pos 0 ≤ℤ N.value x)
+        × (unsigned_abs (N.value x) / 2 ^ r.zeros ≤ r.by.bound)
         × (r.by.bound / r.by.d < 2 ^ W.bits) };
 
-    ghost makes = { λ r _ x y. W.number y ≡ unsigned_abs (N.value x) / r.by.d };
+    ghost makes = { λ r _ x y. W.number y ≡ unsigned_abs (N.value x) / 2 ^ r.zeros / r.by.d };
 
     fn merged(self, _old: W, from: N) -> W {
-        W::narrow(quotient(from.low(), self.by))
+        W::narrow(quotient(from.above(self.zeros), self.by))
     }
 }
 
 // The quotients of value v of each pixel, by a multiplication.
 #[inline(never)]
-fn narrow<W: WholeNumber, N: Numerator>(numbers: &[N], v: usize, by: Reciprocal, values: &mut [W])
+fn narrow<W: WholeNumber, N: Numerator>(
+    numbers: &[N],
+    v: usize,
+    zeros: u32,
+    by: Reciprocal,
+    values: &mut [W],
+)
     requires block { (v < 4) × (length numbers.now ≡ 256) × (length values.old ≡ 256) }
+    requires zeros { zeros < 32 }
     requires reciprocal { IsReciprocal by.d by.bound by.factor by.shift }
     requires shift { by.shift < 64 }
     requires least { (i : ℕ) (e : N) → i < 64
         → pos 0 ≤ℤ N.value (slice_index_or numbers.now (64 * v + i) e) }
     requires greatest { (i : ℕ) (e : N) → i < 64
-        → N.value (slice_index_or numbers.now (64 * v + i) e) ≤ℤ pos by.bound }
+        → unsigned_abs (N.value (slice_index_or numbers.now (64 * v + i) e)) / 2 ^ zeros
+        ≤ by.bound }
     requires fits { by.bound / by.d < 2 ^ W.bits }
     ensures set { (i : ℕ) (d : W) (e : N) → i < 64
         → W.number (slice_index_or values.new (64 * v + i) d)
-        ≡ unsigned_abs (N.value (slice_index_or numbers.now (64 * v + i) e)) / by.d }
+        ≡ unsigned_abs (N.value (slice_index_or numbers.now (64 * v + i) e)) / 2 ^ zeros / by.d }
     ensures kept { (j : ℕ) (d : W) → (j < 64 * v) ⊎ (64 * v + 64 ≤ j)
         → slice_index_or values.new j d ≡ slice_index_or values.old j d }
 {
-    merge_part::<N, W, ShortQuotient, 64>(ShortQuotient { by }, values, 64 * v, numbers, 64 * v);
+    let rule = ShortQuotient { zeros, by };
+    merge_part::<N, W, ShortQuotient, 64>(rule, values, 64 * v, numbers, 64 * v);
 }
 
 // A quotient by a multiplication of 64 bits, which 32 bits hold.
@@ -233,7 +244,7 @@ fn narrow_value<W: WholeNumber, N: Numerator>(
         → slice_index_or values.new j x ≡ slice_index_or values.old j x }
 {
     match divisor {
-        Divisor::Short(by) => narrow(numbers, v, *by, values),
+        Divisor::Short { zeros, by } => narrow(numbers, v, *zeros, *by, values),
         Divisor::Long(by) => narrow_long(numbers, v, *by, values),
         Divisor::Plain => divide(numbers, v, denominator_of(old), to, values),
     }
@@ -335,8 +346,8 @@ pub fn plain_form(before: &Form, count: usize) -> Form
 fn divisor_of(extent: &Extent, bits: u32, number_width: NumberWidth) -> Option<Divisor>
     ensures { IfSome result (λ divisor. IsDivided (width_of number_width) bits extent.now divisor) }
 {
-    if let Some(by) = short_divisor(extent, bits) {
-        return Some(Divisor::Short(by));
+    if let Some((zeros, by)) = short_divisor(extent, bits) {
+        return Some(Divisor::Short { zeros, by });
     }
     if let Some(by) = long_divisor(extent, bits) {
         return Some(Divisor::Long(by));
@@ -350,26 +361,56 @@ fn divisor_of(extent: &Extent, bits: u32, number_width: NumberWidth) -> Option<D
     Some(Divisor::Plain)
 }
 
-// A factor of 32 bits for the numbers of an extent, whose quotients have so many bits.
-fn short_divisor(extent: &Extent, bits: u32) -> Option<Reciprocal>
-    ensures shift { IfSome result (λ by. by.shift < 64) }
-    ensures quotient { IfSome result
-        (λ by. IsQuotient bits extent.now by.d by.bound by.factor by.shift) }
+// How many of the lowest bits of a denominator are 0, but at most 31 of them.
+fn zeros_of(denominator: i128) -> u32
+    ensures { result < 32 }
 {
-    if extent.least < 0 || extent.greatest < 0 || extent.greatest > 4_294_967_295 {
+    denominator.trailing_zeros().min(31)
+}
+
+// The denominator and the greatest number of an extent without so many of their lowest bits, where
+// those of the denominator are 0, and 32 bits hold the rest.
+fn parts_above(extent: &Extent, zeros: u32) -> Option<(u32, u32)>
+    requires zeros { zeros < 32 }
+    ensures least { IfSome result (λ parts. pos 0 ≤ℤ extent.now.least) }
+    ensures denominator { IfSome result
+        (λ parts. 2 ^ zeros * parts.0 ≡ unsigned_abs extent.now.denominator) }
+    ensures greatest { IfSome result
+        (λ parts. parts.1 ≡ unsigned_abs extent.now.greatest / 2 ^ zeros) }
+{
+    if extent.least < 0 || extent.greatest < 0 || extent.denominator <= 0 {
         return None;
     }
-    if extent.denominator <= 0 || extent.denominator > 4_294_967_295 {
+    let denominator = extent.denominator as u128;
+    let greatest = extent.greatest as u128 >> zeros;
+    if denominator % (1 << zeros) != 0 {
         return None;
     }
-    let by = new_reciprocal(extent.denominator as u32, extent.greatest as u32)?;
+    let denominator = denominator >> zeros;
+    if denominator > 4_294_967_295 || greatest > 4_294_967_295 {
+        return None;
+    }
+    Some((denominator as u32, greatest as u32))
+}
+
+// A factor of 32 bits for the numbers of an extent, whose quotients have so many bits, once they
+// have lost so many of their lowest bits.
+fn short_divisor(extent: &Extent, bits: u32) -> Option<(u32, Reciprocal)>
+    ensures zeros { IfSome result (λ by. by.0 < 32) }
+    ensures shift { IfSome result (λ by. by.1.shift < 64) }
+    ensures quotient { IfSome result (λ by. IsEvenQuotient bits extent.now by.0
+        by.1.d by.1.bound by.1.factor by.1.shift) }
+{
+    let zeros = zeros_of(extent.denominator);
+    let (denominator, greatest) = parts_above(extent, zeros)?;
+    let by = new_reciprocal(denominator, greatest)?;
     if bits > 32 {
         return None;
     }
     if u64::from(by.bound / by.d) >= 1u64 << bits {
         return None;
     }
-    Some(by)
+    Some((zeros, by))
 }
 
 // A factor of 64 bits for the numbers of an extent, whose quotients have so many bits.
