@@ -1,3 +1,4 @@
 pub mod CutRows
+pub mod KeptNumbers
 pub mod PutRows
 pub mod RunRows

@@ -17,6 +17,7 @@ ghost use Rattle.kernel_planes.specs.Planes.{AreRows, palette_length, row_elemen
 ghost use Rattle.kernel_planes.specs.Planes.{row_list};
 ghost use Rattle.kernel_planes.specs.Planes.{rows_of};
 
+use kernel_affine::affine_steps;
 use kernel_planes::{Planes, WholeNumber, clear_rest, read_block, read_palette, write_block};
 use kernel_step::{Form, Numerator, step};
 use op_list::{Op, PixType, PixelPosition, Stage};
@@ -117,7 +118,13 @@ fn run_steps<W: WholeNumber, N: Numerator>(
         (values_before ops.now frame position.now (length ops.now - 1)) }
 {
     let mut stage = first;
-    for k in 1..ops.len() - 1 {
+    let mut k = 1;
+    while k < ops.len() - 1 {
+        if let Some(next) = affine_steps(ops, forms, k, stage, position, values, sums, numbers) {
+            stage = Stage::Typed(PixType::Rat);
+            k = next;
+            continue;
+        }
         step(
             &ops[k],
             stage,
@@ -130,6 +137,7 @@ fn run_steps<W: WholeNumber, N: Numerator>(
             sums,
         );
         stage = ops[k].stage_after(stage);
+        k += 1;
     }
 }
 

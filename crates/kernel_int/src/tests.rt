@@ -392,6 +392,67 @@ fn fractions(rt: HostRuntime) {
     assert!(rt; agrees_in_all_widths(rt.alloc(), &words));
 }
 
+fn scale(num: i128, den: i128) -> Op {
+    Op::Scale {
+        by: quotient(num, den),
+    }
+}
+
+// Some values at least 16 or 31/2, and at most 235 or 479/2.
+fn at_least() -> Op {
+    Op::Max {
+        limits: [Some(Frac::whole(16)), None, Some(quotient(31, 2)), None],
+    }
+}
+
+fn at_most() -> Op {
+    Op::Min {
+        limits: [Some(Frac::whole(235)), Some(quotient(479, 2)), None, None],
+    }
+}
+
+#[test]
+fn several_at_once(rt: HostRuntime) {
+    // A matrix or a factor, and behind it halves and limits that are there or not.
+    let all = [
+        read(PixType::U8, [4, 0, 0, 0]),
+        convert(PixType::Rat),
+        linear(quotient(-219, 255), Frac::whole(235)),
+        Op::Dither { k: 0 },
+        at_least(),
+        at_most(),
+        convert(PixType::U8),
+        write(PixType::U8, [4, 0, 0, 0]),
+    ];
+    let limited = [
+        read(PixType::U16, [1, 1, 1, 0]),
+        Op::SwapBytes,
+        convert(PixType::Rat),
+        scale(2, 3),
+        at_least(),
+        Op::Dither { k: 0 },
+        convert(PixType::U16),
+        Op::SwapBytes,
+        write(PixType::U16, [3, 0, 0, 0]),
+    ];
+    let twice = [
+        read(PixType::U8, [3, 0, 0, 0]),
+        convert(PixType::Rat),
+        linear(quotient(255, 219), Frac::whole(-16)),
+        scale(-3, 2),
+        at_most(),
+        convert(PixType::U8),
+        convert(PixType::Rat),
+        scale(1, 2),
+        at_most(),
+        convert(PixType::U8),
+        write(PixType::U8, [1, 1, 1, 0]),
+    ];
+    assert!(rt; agrees(rt.alloc(), &all, 130, 2));
+    assert!(rt; agrees(rt.alloc(), &limited, 130, 2));
+    assert!(rt; agrees(rt.alloc(), &twice, 130, 2));
+}
+
 #[test]
 fn joint_in_64_bits(rt: HostRuntime) {
     // A factor of more than 64 bits, where each value is 0 before it.

@@ -1,13 +1,43 @@
 use Rattle.std.proofs.Common.{◌≡◌, ℕ, ◌<◌, ◌+◌, ◌-◌, List, [], length, sym, ◌∙◌, arith, ap, subst}
 use Rattle.std.proofs.lemmas.List.{get_or_default}
 use Rattle.op_list.specs.declared.op.Op.TheVariants.{SwapBytes}
+use Rattle.op_list.specs.declared.values.Values.{Values}
 use Rattle.op_list.specs.Typing.{stage_after}
 use Rattle.op_list.specs.Apply.{apply}
 use Rattle.kernel_planes.specs.Block.{pixel_at}
 use Rattle.kernel_step.specs.Forms.{form_at, stage_before, values_before, op_at, IsState, IsBounded}
 use Rattle.kernel_step.proofs.Kernels.{follows_at, good_at, stage_more, state_more, bounded_more}
 use Rattle.kernel_step.proofs.RunLimits.{apply_alike, runs_ready}
+use Rattle.kernel_int.proofs.KeptNumbers.{bounded_kept, state_kept}
 use Rattle.kernel_int.proofs.block.run_steps.Goals as goal
+
+pub affine_steps-requires-clause-ready : goal.affine_steps-requires-clause-ready
+affine_steps-requires-clause-ready g c =
+    let ops = c.args.ops.now in
+    let forms = c.args.forms.now in
+    let k = c.loop-k.k in
+    rw c.loop-k.invariant.stage
+    (runs_ready g.W.WholeNumber.number g.N.Numerator.value g.W.WholeNumber.bits g.N.Numerator.width ops k c.args.position.now
+    (form_at forms (k - 1)) (form_at forms k) c.loop-k.values c.loop-k.numbers c.requires.kernel.typed c.requires.kernel.whole
+    c.loop-k.invariant.some (omega arith) (c.requires.kernel.few (k - 1)) c.loop-k.invariant.lanes c.loop-k.invariant.bounded
+    (c.requires.kernel.steps k c.loop-k.invariant.some (omega arith)))
+
+pub loop-k-preserved-in-Some : goal.loop-k-preserved-in-Some
+loop-k-preserved-in-Some g c =
+    let next = c.in-Some.ensures in
+    let before = c.loop-k.invariant in
+    record {
+      some = omega (arith, before.some, next.next.0);
+      within = omega (arith, next.next.1);
+      stage = sym next.stage;
+      bounded = next.bounded;
+      lanes = record {
+        frames = before.lanes.frames;
+        bytes = before.lanes.bytes;
+        state = next.holds before.lanes.frames 64 (omega arith) before.lanes.state;
+      };
+      holds = λ frame n most start. next.holds (λ i. frame) n most (before.holds frame n most start);
+    }
 
 pub step-requires-clause-follows : goal.step-requires-clause-follows
 step-requires-clause-follows g c =
@@ -43,6 +73,12 @@ step-requires-clause-ready g c =
     (omega arith) within (c.requires.kernel.few (k - 1)) c.loop-k.invariant.lanes c.loop-k.invariant.bounded
     (c.requires.kernel.steps k (omega arith) (omega arith)))
 
+pub step-requires-clause-bounded : goal.step-requires-clause-bounded
+step-requires-clause-bounded g c =
+    bounded_kept g.W.WholeNumber.number g.N.Numerator.value c.loop-k.stage (form_at c.args.forms.now (c.loop-k.k - 1)) c.loop-k.values
+    c.loop-k.numbers c.affine_steps.new.numbers c.affine_steps.ensures.kept
+    (rw c.loop-k.invariant.stage c.loop-k.invariant.bounded)
+
 pub loop-k-preserved : goal.loop-k-preserved
 loop-k-preserved g c =
     let ops = c.args.ops.now in
@@ -58,7 +94,16 @@ loop-k-preserved g c =
     (form_at forms k) numbers_of.step [] (frames i) (pixel_at position i) (values_before ops (frames i) position k i) in
     let same : c.index-ops-k.result ≡ op_at ops k = c.index-ops-k.is ∙ get_or_default ops k _ SwapBytes within in
     let again : c.index-ops-k-in-loop-k.result ≡ op_at ops k = c.index-ops-k-in-loop-k.is ∙ get_or_default ops k _ SwapBytes within in
+    let kept : (n : ℕ) (given : ℕ → Values)
+    → IsState g.W.WholeNumber.number g.N.Numerator.value (stage_before ops k) (form_at forms (k - 1)) c.loop-k.values c.loop-k.numbers n
+    given
+    → IsState g.W.WholeNumber.number g.N.Numerator.value (stage_before ops k) (form_at forms (k - 1)) c.loop-k.values
+    c.affine_steps.new.numbers n given =
+    λ n given. state_kept g.W.WholeNumber.number g.N.Numerator.value (stage_before ops k) (form_at forms (k - 1)) c.loop-k.values
+    c.loop-k.numbers c.affine_steps.new.numbers n given (rw c.loop-k.invariant.stage at c.affine_steps.ensures.kept) in
     record {
+      some = omega arith;
+      within = omega arith;
       stage = c.stage_after-stage.ensures ∙ ap (λ s. stage_after s c.index-ops-k-in-loop-k.result) c.loop-k.invariant.stage
           ∙ ap (λ o. stage_after (stage_before ops k) o) again ∙ sym (stage_more ops k within);
       bounded = bounded_more g.W.WholeNumber.number g.N.Numerator.value ops c.args.forms.now k c.loop-k.stage c.index-ops-k.result
@@ -68,15 +113,15 @@ loop-k-preserved g c =
         frames = c.loop-k.invariant.lanes.frames;
         bytes = c.loop-k.invariant.lanes.bytes;
         state = state_more g.W.WholeNumber.number g.N.Numerator.value ops forms position c.loop-k.invariant.lanes.frames k c.loop-k.stage
-            c.index-ops-k.result c.loop-k.values c.step.new.values c.loop-k.numbers c.step.new.numbers
+            c.index-ops-k.result c.loop-k.values c.step.new.values c.affine_steps.new.numbers c.step.new.numbers
             c.requires.kernel.typed c.loop-k.invariant.stage same within (alike c.loop-k.invariant.lanes.frames) c.step.ensures.holds
-            64 (omega arith) c.loop-k.invariant.lanes.state;
+            64 (omega arith) (kept 64 _ c.loop-k.invariant.lanes.state);
       };
       holds = λ frame n most start.
           state_more g.W.WholeNumber.number g.N.Numerator.value ops forms position (λ i. frame) k c.loop-k.stage
-          c.index-ops-k.result c.loop-k.values c.step.new.values c.loop-k.numbers c.step.new.numbers
+          c.index-ops-k.result c.loop-k.values c.step.new.values c.affine_steps.new.numbers c.step.new.numbers
           c.requires.kernel.typed c.loop-k.invariant.stage same within (alike (λ i. frame)) c.step.ensures.holds n most
-          (c.loop-k.invariant.holds frame n most start);
+          (kept n _ (c.loop-k.invariant.holds frame n most start));
     }
 
 pub returns-clause-bounded : goal.returns-clause-bounded
