@@ -3,16 +3,15 @@ use Rattle.std.proofs.Common.{◌≡◌, ℕ, ◌+◌, ◌-◌, ◌<◌, ◌≤�
 use Rattle.std.specs.Prelude.{Option, Some, None}
 use Rattle.std.specs.Int.{Width}
 use Rattle.std.proofs.Math.IntN.{+ℤ_idr}
-use Rattle.op_list.specs.declared.types.Stage.{Stage}
 use Rattle.op_list.specs.declared.op.Op.{Op}
 use Rattle.op_list.specs.declared.position.PixelPosition.{PixelPosition}
-use Rattle.op_list.specs.Types.{is_whole}
 use Rattle.kernel_step.specs.declared.form.Form.{Form}
 use Rattle.kernel_step.specs.Rules.{row_sum}
 use Rattle.kernel_step.specs.Forms.{AreReady, IsKernel, IsStep, factor, factors_at, form_at, op_at, stage_before}
 use Rattle.kernel_affine.specs.declared.chain.Chain.{Chain}
+use Rattle.kernel_affine.specs.declared.chain.Placed.{Placed}
 use Rattle.kernel_affine.specs.Affine.{whole_lane}
-use Rattle.kernel_affine.specs.Chain.{IsAt, IsChain, IsReadyChain, IsUnscaled, behind, chain_number, from_least, greatest_at, greatest_of, is_half}
+use Rattle.kernel_affine.specs.Chain.{IsAt, IsPlaced, IsReadyChain, IsUnscaled, behind, chain_number, from_least, greatest_at, greatest_of, is_half}
 use Rattle.kernel_affine.specs.Chain.{is_max, is_min, least_at, least_of, map_row, to_greatest, unit_at}
 use Rattle.kernel_affine.proofs.WalkedSteps.{IsWalked, half_walked, map_walked, max_walked, min_walked, widened_walked}
 
@@ -140,15 +139,10 @@ chain_walked digits value bits width ops forms position k chain values old some 
     (half_behind digits value bits width ops forms position k (chain.map + 1) chain.half values old sums is.kernel (omega arith)
     inside.second is.there.half (sums_walked digits value bits width ops forms position k chain values old some is))))
 
--- such a chain, from what is known of a stage
-pub ready_chain : {W : Type 0} (digits : W → ℕ) (bits : ℕ) (width : Width) (ops : List Op) (forms : List Form) (k : ℕ) (chain : Chain)
-    (stage : Stage) (values : List W) → IsKernel ops forms bits width → 0 < k → IsChain ops forms k chain → stage ≡ stage_before ops k
-    → is_whole stage ≡ true → AreReady digits width stage (op_at ops k) (form_at forms k) values
-    → IsReadyChain digits bits width ops forms k chain values
-ready_chain digits bits width ops forms k chain stage values kernel some there same whole ready = record {
-  kernel = kernel;
-  some = some;
-  there = there;
-  whole = subst (λ s. is_whole s ≡ true) same whole;
-  ready = subst (λ s. AreReady digits width s (op_at ops k) (form_at forms k) values) same ready;
-}
+-- a chain of a list, before which the values are ready
+pub placed_ready : {W : Type 0} (digits : W → ℕ) (bits : ℕ) (width : Width) (ops : List Op) (forms : List Form) (placed : Placed)
+    (values : List W) → IsKernel ops forms bits width → IsPlaced ops forms placed
+    → AreReady digits width (stage_before ops placed.at) (op_at ops placed.at) (form_at forms placed.at) values
+    → IsReadyChain digits bits width ops forms placed.at placed.chain values
+placed_ready digits bits width ops forms placed values kernel there ready =
+    record { kernel = kernel; some = there.some; there = there.there; whole = there.whole; ready = ready }

@@ -11,6 +11,7 @@ use Rattle.kernel_step.specs.declared.form.Form.{Form}
 use Rattle.kernel_step.specs.Rules.{row_sum, but_at_least, but_at_most}
 use Rattle.kernel_step.specs.Forms.{AreReady, IsKernel, extent_at, factor, factors_at, form_at, makes_fractions, op_at, stage_before}
 use Rattle.kernel_affine.specs.declared.chain.Chain.{Chain}
+use Rattle.kernel_affine.specs.declared.chain.Placed.{Placed}
 use Rattle.kernel_affine.specs.declared.products.Products.{Products}
 use Rattle.kernel_affine.specs.declared.products.Products.TheVariants.{One}
 use Rattle.kernel_affine.specs.Affine.{AreTaken}
@@ -117,6 +118,13 @@ pub record IsChain (ops : List Op) (forms : List Form) (k : ℕ) (chain : Chain)
   pub min : IsAt ops forms is_min (behind chain.max (behind chain.half (chain.map + 1))) chain.min
   pub next : chain.next ≡ behind chain.min (behind chain.max (behind chain.half (chain.map + 1)))
   pub end : chain.next < length ops
+
+-- a chain behind the Read, before which the values are whole numbers
+pub record IsPlaced (ops : List Op) (forms : List Form) (placed : Placed) : Type 0 where
+  pub some : 0 < placed.at
+  pub whole : is_whole (stage_before ops placed.at) ≡ true
+  pub there : IsChain ops forms placed.at placed.chain
+  pub inside : (placed.at < placed.chain.next) × (placed.chain.next < length ops)
 
 -- what it makes of the whole numbers of a pixel, at value v
 abbrev pub chain_number : List Op → List Form → Chain → (ℕ → ℤ) → ℕ → ℤ

@@ -2,7 +2,8 @@
 ghost use Rattle.std.specs.Prelude.{◌≡◌, ℕ, ◌+◌, ◌-◌, ◌^◌, ◌<◌, ◌≤◌, true, pos, length, IfSome};
 ghost use Rattle.op_list.specs.Types.{is_whole};
 ghost use Rattle.kernel_step.specs.Forms.{AreFew, factor, factors_at, form_at, makes_fractions, op_at};
-ghost use Rattle.kernel_affine.specs.Chain.{AreProducts, IsAt, IsChain, IsUnscaled, behind, is_half};
+ghost use Rattle.kernel_affine.specs.Chain.{AreProducts, IsAt, IsChain, IsPlaced, IsUnscaled, behind};
+ghost use Rattle.kernel_affine.specs.Chain.{is_half};
 ghost use Rattle.kernel_affine.specs.Chain.{is_map, is_max, is_min, map_row, single_row};
 
 use crate::products::{Products, products_of};
@@ -22,6 +23,13 @@ pub struct Chain {
     pub min: Option<usize>,
     /// The operation behind all of them.
     pub next: usize,
+}
+
+/// A chain, and the operation that it begins with.
+#[derive(Clone, Copy, Debug)]
+pub struct Placed {
+    pub at: usize,
+    pub chain: Chain,
 }
 
 // Whether whole numbers become fractions.
@@ -241,7 +249,7 @@ fn is_unit_scale(op: &Op, form: &Form) -> bool
     }
 }
 
-/// The chain at operation k, where one stands there.
+// The chain at operation k, where one stands there.
 pub fn chain_at(ops: &[Op], forms: &[Form], k: usize, stage: Stage) -> Option<Chain>
     requires sizes { length forms.now ≡ length ops.now }
     requires few { AreFew forms.now }
@@ -268,4 +276,21 @@ pub fn chain_at(ops: &[Op], forms: &[Form], k: usize, stage: Stage) -> Option<Ch
     }
     let products = products_of_map(&ops[map], &forms[k], &forms[map])?;
     Some(chain_of(ops, forms, map, &products))
+}
+
+/// The first chain of a list behind its Read, if it has one.
+pub fn find_chain(ops: &[Op], forms: &[Form]) -> Option<Placed>
+    requires sizes { length forms.now ≡ length ops.now }
+    requires few { AreFew forms.now }
+    requires some { 2 ≤ length ops.now }
+    ensures { IfSome result (λ placed. IsPlaced ops.now forms.now placed) }
+{
+    let mut stage = ops[0].stage_after(Stage::Start);
+    for at in 1..ops.len() - 1 {
+        if let Some(chain) = chain_at(ops, forms, at, stage) {
+            return Some(Placed { at, chain });
+        }
+        stage = ops[at].stage_after(stage);
+    }
+    None
 }

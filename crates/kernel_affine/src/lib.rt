@@ -10,6 +10,6 @@ mod tests;
 mod value;
 mod wide;
 
-pub use chain::{Chain, chain_at};
+pub use chain::{Chain, Placed, find_chain};
 pub use products::Products;
-pub use steps::{affine_steps, chain_steps};
+pub use steps::chain_steps;

@@ -3,18 +3,21 @@ ghost use Rattle.std.specs.Prelude.{◌≡◌, ℕ, ℤ, ◌+◌, ◌-◌, ◌*�
 ghost use Rattle.std.specs.Prelude.{slice_index_or, FitsSigned, IfSome};
 ghost use Rattle.op_list.specs.declared.types.PixType.TheVariants.{Rat};
 ghost use Rattle.op_list.specs.declared.types.Stage.TheVariants.{Typed};
-ghost use Rattle.op_list.specs.Types.{is_whole};
 ghost use Rattle.kernel_step.specs.Forms.{AreReady, IsBounded, IsKernel, IsState, form_at, op_at};
 ghost use Rattle.kernel_step.specs.Forms.{stage_before, values_before};
-ghost use Rattle.kernel_affine.specs.Affine.{AreWide, bound_above, bound_below, whole_lane};
-ghost use Rattle.kernel_affine.specs.Chain.{IsReadyChain, chain_number, from_least, greatest_at};
-ghost use Rattle.kernel_affine.specs.Chain.{greatest_of, least_at, least_of, to_greatest, unit_at};
+ghost use Rattle.kernel_affine.specs.Affine.{AreFitting, AreWide, bound_above, bound_below};
+ghost use Rattle.kernel_affine.specs.Affine.{whole_lane};
+ghost use Rattle.kernel_affine.specs.Chain.{IsPlaced, IsReadyChain, chain_number, from_least};
+ghost use Rattle.kernel_affine.specs.Chain.{greatest_at, greatest_of, least_at, least_of};
+ghost use Rattle.kernel_affine.specs.Chain.{products_at, to_greatest, unit_at};
+ghost use Rattle.kernel_affine.specs.declared.products.Products.TheVariants.{Three};
 
-use crate::chain::{Chain, chain_at, row_at};
+use crate::chain::{Chain, Placed, row_at};
+use crate::products::Products;
 use crate::wide::{affine_wide, widen};
 use kernel_planes::WholeNumber;
 use kernel_step::{Form, Numerator};
-use op_list::{Op, PixelPosition, Stage};
+use op_list::{Op, PixelPosition};
 
 // What a Dither adds to value v.
 fn unit_of(forms: &[Form], half: Option<usize>, v: usize) -> i128
@@ -110,8 +113,8 @@ fn chain_value<W: WholeNumber, N: Numerator>(
     requires there { v < (form_at forms.now (chain.now.next - 1)).count }
     requires block { (length values.now ≡ 256) × (length wide.now ≡ 256)
         × (length numbers.old ≡ 256) }
-    requires wide { AreWide W.bits W.number N.value values.now wide.now
-        (form_at forms.now k).count }
+    requires wide { products_at chain.now.products v ≡ Three
+        → AreWide W.bits W.number N.value values.now wide.now (form_at forms.now k).count }
     ensures set { (i : ℕ) (d : W) (e : N) → i < 64
         → N.value (slice_index_or numbers.new (64 * v + i) e)
         ≡ chain_number ops.now forms.now chain.now (whole_lane W.number values.now i d) v }
@@ -136,6 +139,39 @@ fn chain_value<W: WholeNumber, N: Numerator>(
     );
 }
 
+// Whether a row of one of the first values has three products.
+fn has_three(products: &[Products; 4], count: usize) -> bool
+    requires { count ≤ 4 }
+    ensures { result ≡ false → (v : ℕ) → v < count → products_at products.now v ≡ Three → ⊥ }
+{
+    for v in 0..count {
+        match products[v] {
+            Products::Three => return true,
+            Products::One(_) => {}
+        }
+    }
+    false
+}
+
+// The whole numbers of a block as numerators, where a row needs them so.
+fn widen_for<W: WholeNumber, N: Numerator>(
+    products: &[Products; 4],
+    rows: usize,
+    values: &[W],
+    count: usize,
+    wide: &mut [N],
+)
+    requires few { (rows ≤ 4) × (count ≤ 4) }
+    requires block { (length values.now ≡ 256) × (length wide.old ≡ 256) }
+    requires fitting { AreFitting N.width W.number values.now count }
+    ensures { (v : ℕ) → v < rows → products_at products.now v ≡ Three
+        → AreWide W.bits W.number N.value values.now wide.new count }
+{
+    if has_three(products, rows) {
+        widen(values, count, wide);
+    }
+}
+
 // All that a chain makes of a block.
 fn chain_values<W: WholeNumber, N: Numerator>(
     ops: &[Op],
@@ -153,8 +189,9 @@ fn chain_values<W: WholeNumber, N: Numerator>(
         → i < 64 → N.value (slice_index_or numbers.new (64 * v + i) e)
         ≡ chain_number ops.now forms.now chain.now (whole_lane W.number values.now i d) v }
 {
-    widen(values, forms[k].count, wide);
-    for v in 0..forms[chain.next - 1].count {
+    let rows = forms[chain.next - 1].count;
+    widen_for(&chain.products, rows, values, forms[k].count, wide);
+    for v in 0..rows {
         chain_value(ops, forms, k, chain, values, wide, numbers, v);
     }
 }
@@ -164,63 +201,28 @@ fn chain_values<W: WholeNumber, N: Numerator>(
 pub fn chain_steps<W: WholeNumber, N: Numerator>(
     ops: &[Op],
     forms: &[Form],
-    k: usize,
-    chain: &Chain,
+    placed: &Placed,
     _position: &PixelPosition,
     values: &[W],
     wide: &mut [N],
     numbers: &mut [N],
 )
-    requires ready { IsReadyChain W.number W.bits N.width ops.now forms.now k chain.now values.now }
-    requires block { (length values.now ≡ 256) × (length wide.old ≡ 256)
-        × (length numbers.old ≡ 256) }
-    ensures stage { stage_before ops.now chain.now.next ≡ Typed Rat }
-    ensures bounded { IsBounded W.number N.value (stage_before ops.now chain.now.next)
-        (form_at forms.now (chain.now.next - 1)) values.now numbers.new }
-    ensures holds { (frames : ℕ → List ℕ) (n : ℕ) → n ≤ 64
-        → IsState W.number N.value (stage_before ops.now k) (form_at forms.now (k - 1))
-        values.now numbers.old n (λ i. values_before ops.now (frames i) _position.now k i)
-        → IsState W.number N.value (stage_before ops.now chain.now.next)
-        (form_at forms.now (chain.now.next - 1)) values.now numbers.new n
-        (λ i. values_before ops.now (frames i) _position.now chain.now.next i) }
-{
-    chain_values(ops, forms, k, chain, values, wide, numbers);
-}
-
-/// Works out the numerators that a Convert of whole numbers to fractions, a Linear or a Scale
-/// behind it, a Dither by halves, a Max and a Min behind that would give one after the other, in
-/// one loop for each value, and answers the number of the operation behind them; or None, where
-/// the operations from k on are no such chain.
-pub fn affine_steps<W: WholeNumber, N: Numerator>(
-    ops: &[Op],
-    forms: &[Form],
-    k: usize,
-    stage: Stage,
-    position: &PixelPosition,
-    values: &[W],
-    wide: &mut [N],
-    numbers: &mut [N],
-) -> Option<usize>
     requires kernel { IsKernel ops.now forms.now W.bits N.width }
-    requires first { 0 < k }
-    requires inside { k < length ops.now - 1 }
-    requires stage { stage ≡ stage_before ops.now k }
-    requires ready { AreReady W.number N.width stage (op_at ops.now k) (form_at forms.now k)
-        values.now }
+    requires there { IsPlaced ops.now forms.now placed.now }
+    requires ready { AreReady W.number N.width (stage_before ops.now placed.now.at)
+        (op_at ops.now placed.now.at) (form_at forms.now placed.now.at) values.now }
     requires block { (length values.now ≡ 256) × (length wide.old ≡ 256)
         × (length numbers.old ≡ 256) }
-    ensures next { IfSome result (λ next. (k < next) × (next < length ops.now)) }
-    ensures stage { IfSome result (λ next. stage_before ops.now next ≡ Typed Rat) }
-    ensures bounded { IfSome result (λ next. IsBounded W.number N.value
-        (stage_before ops.now next) (form_at forms.now (next - 1)) values.now numbers.new) }
-    ensures holds { IfSome result (λ next. (frames : ℕ → List ℕ) (n : ℕ) → n ≤ 64
-        → IsState W.number N.value (stage_before ops.now k) (form_at forms.now (k - 1))
-        values.now numbers.old n (λ i. values_before ops.now (frames i) position.now k i)
-        → IsState W.number N.value (stage_before ops.now next) (form_at forms.now (next - 1))
-        values.now numbers.new n (λ i. values_before ops.now (frames i) position.now next i)) }
-    ensures kept { is_whole stage ≡ false → numbers.new ≡ numbers.old }
+    ensures stage { stage_before ops.now placed.now.chain.next ≡ Typed Rat }
+    ensures bounded { IsBounded W.number N.value (stage_before ops.now placed.now.chain.next)
+        (form_at forms.now (placed.now.chain.next - 1)) values.now numbers.new }
+    ensures holds { (frames : ℕ → List ℕ) (n : ℕ) → n ≤ 64
+        → IsState W.number N.value (stage_before ops.now placed.now.at)
+        (form_at forms.now (placed.now.at - 1)) values.now numbers.old n
+        (λ i. values_before ops.now (frames i) _position.now placed.now.at i)
+        → IsState W.number N.value (stage_before ops.now placed.now.chain.next)
+        (form_at forms.now (placed.now.chain.next - 1)) values.now numbers.new n
+        (λ i. values_before ops.now (frames i) _position.now placed.now.chain.next i) }
 {
-    let chain = chain_at(ops, forms, k, stage)?;
-    chain_steps(ops, forms, k, &chain, position, values, wide, numbers);
-    Some(chain.next)
+    chain_values(ops, forms, placed.at, &placed.chain, values, wide, numbers);
 }

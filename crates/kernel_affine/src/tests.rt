@@ -1,8 +1,8 @@
 // Which lists have a chain behind their Read, and where it ends.
-use crate::chain::chain_at;
+use crate::chain::find_chain;
 use frac_math::Frac;
 use kernel_step::{NumberWidth, counts_of, forms_of, storage_of};
-use op_list::{Op, OpList, PixType, PushFault, Stage};
+use op_list::{Op, OpList, PixType, PushFault};
 use op_range::ranges;
 use std::alloc::Global;
 
@@ -29,8 +29,8 @@ fn end_of_chain(alloc: Global, ops: &[Op]) -> Option<usize> {
     if ops.len() < 3 {
         return None;
     }
-    let chain = chain_at(ops, &forms, 1, Stage::Typed(PixType::U8))?;
-    Some(chain.next)
+    let placed = find_chain(ops, &forms)?;
+    Some(placed.chain.next)
 }
 
 fn read() -> Op {

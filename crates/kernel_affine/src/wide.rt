@@ -7,6 +7,7 @@ ghost use Rattle.kernel_step.specs.Forms.{factor};
 ghost use Rattle.kernel_step.specs.Rules.{row_sum, lane_numbers, RowFits};
 ghost use Rattle.kernel_affine.specs.Affine.{AreFitting, AreTaken, AreWide, FitsThree, IsLow};
 ghost use Rattle.kernel_affine.specs.Affine.{IsShort, affine, bound_by, three_sum, whole_lane};
+ghost use Rattle.kernel_affine.specs.declared.products.Products.TheVariants.{Three};
 
 use crate::limits::held;
 use crate::products::Products;
@@ -170,7 +171,8 @@ fn wide_products<W: WholeNumber, N: Numerator>(
     wide_value(wide, row, unit, low, high, numbers, v);
 }
 
-/// The same as `affine_value`, where the whole numbers are numerators too.
+/// The same as `affine_value`, where the whole numbers of a row of three products are numerators
+/// too.
 pub fn affine_wide<W: WholeNumber, N: Numerator>(
     values: &[W],
     wide: &[N],
@@ -185,7 +187,8 @@ pub fn affine_wide<W: WholeNumber, N: Numerator>(
 )
     requires block { (v < 4) × (count ≤ 4) × (length values.now ≡ 256)
         × (length wide.now ≡ 256) × (length numbers.old ≡ 256) }
-    requires wide { AreWide W.bits W.number N.value values.now wide.now count }
+    requires wide { products ≡ Three
+        → AreWide W.bits W.number N.value values.now wide.now count }
     requires taken { AreTaken products row.now count }
     requires fitting { AreFitting N.width W.number values.now count }
     requires entries { (j : ℕ) → j < 5 → FitsSigned N.width (factor row.now j) }

@@ -1,4 +1,4 @@
 pub mod CutRows
-pub mod KeptNumbers
+pub mod MovedRows
 pub mod PutRows
 pub mod RunRows

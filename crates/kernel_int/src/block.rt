@@ -1,6 +1,7 @@
 // A list of operations on a block of pixels.
 ghost use Rattle.std.specs.Prelude.{◌≡◌, ℕ, ◌+◌, ◌*◌, ◌-◌, ◌^◌, ◌<◌, ◌≤◌, ◌⊎◌, true, false, length};
-ghost use Rattle.std.specs.Prelude.{sum, All};
+ghost use Rattle.std.specs.Prelude.{sum, All, IfSome};
+ghost use Rattle.kernel_affine.specs.Chain.{IsPlaced};
 ghost use Rattle.std.specs.Prelude.{slice_index_or, List};
 ghost use Rattle.op_list.specs.Types.{bits, bits_at};
 ghost use Rattle.op_list.specs.Typing.{may_follow, are_good, stage_after, is_write};
@@ -17,7 +18,7 @@ ghost use Rattle.kernel_planes.specs.Planes.{AreRows, palette_length, row_elemen
 ghost use Rattle.kernel_planes.specs.Planes.{row_list};
 ghost use Rattle.kernel_planes.specs.Planes.{rows_of};
 
-use kernel_affine::affine_steps;
+use kernel_affine::{Placed, chain_steps};
 use kernel_planes::{Planes, WholeNumber, clear_rest, read_block, read_palette, write_block};
 use kernel_step::{Form, Numerator, step};
 use op_list::{Op, PixType, PixelPosition, Stage};
@@ -88,11 +89,13 @@ fn read_first<W: WholeNumber>(
     }
 }
 
-// The operations between the first and the last one.
-fn run_steps<W: WholeNumber, N: Numerator>(
+// The operations from one to another, one after the other.
+fn plain_steps<W: WholeNumber, N: Numerator>(
     ops: &[Op],
     forms: &[Form],
-    first: Stage,
+    first: usize,
+    last: usize,
+    stage: Stage,
     position: &PixelPosition,
     values: &mut [W],
     spare: &mut [W],
@@ -100,31 +103,26 @@ fn run_steps<W: WholeNumber, N: Numerator>(
     sums: &mut [N],
 )
     requires kernel { IsKernel ops.now forms.now W.bits N.width }
-    requires some { 2 ≤ length ops.now }
-    requires first { first ≡ stage_before ops.now 1 }
+    requires order { (0 < first) × (first ≤ last) × (last < length ops.now) }
+    requires stage { stage ≡ stage_before ops.now first }
     requires block { (length values.old ≡ 256) × (length spare.old ≡ 256)
         × (length numbers.old ≡ 256) × (length sums.old ≡ 256) }
-    requires bounded { IsBounded W.number N.value (stage_before ops.now 1)
-        (form_at forms.now 0) values.old numbers.old }
-    requires lanes { AreRuns W.number N.value ops.now 1 position.now
-        (form_at forms.now 0) values.old numbers.old }
-    ensures bounded { IsBounded W.number N.value (stage_before ops.now (length ops.now - 1))
-        (form_at forms.now (length ops.now - 2)) values.new numbers.new }
-    ensures holds { (frame : List ℕ) (n : ℕ) → n ≤ 64
-        → IsState W.number N.value (stage_before ops.now 1)
-        (form_at forms.now 0) values.old numbers.old n (values_before ops.now frame position.now 1)
-        → IsState W.number N.value (stage_before ops.now (length ops.now - 1))
-        (form_at forms.now (length ops.now - 2)) values.new numbers.new n
-        (values_before ops.now frame position.now (length ops.now - 1)) }
+    requires bounded { IsBounded W.number N.value (stage_before ops.now first)
+        (form_at forms.now (first - 1)) values.old numbers.old }
+    requires lanes { AreRuns W.number N.value ops.now first position.now
+        (form_at forms.now (first - 1)) values.old numbers.old }
+    ensures bounded { IsBounded W.number N.value (stage_before ops.now last)
+        (form_at forms.now (last - 1)) values.new numbers.new }
+    ensures holds { (frames : ℕ → List ℕ) (n : ℕ) → n ≤ 64
+        → IsState W.number N.value (stage_before ops.now first)
+        (form_at forms.now (first - 1)) values.old numbers.old n
+        (λ i. values_before ops.now (frames i) position.now first i)
+        → IsState W.number N.value (stage_before ops.now last)
+        (form_at forms.now (last - 1)) values.new numbers.new n
+        (λ i. values_before ops.now (frames i) position.now last i) }
 {
-    let mut stage = first;
-    let mut k = 1;
-    while k < ops.len() - 1 {
-        if let Some(next) = affine_steps(ops, forms, k, stage, position, values, sums, numbers) {
-            stage = Stage::Typed(PixType::Rat);
-            k = next;
-            continue;
-        }
+    let mut stage = stage;
+    for k in first..last {
         step(
             &ops[k],
             stage,
@@ -137,7 +135,95 @@ fn run_steps<W: WholeNumber, N: Numerator>(
             sums,
         );
         stage = ops[k].stage_after(stage);
-        k += 1;
+    }
+}
+
+// The operations between the first and the last one, where some of them are a chain.
+fn steps_around<W: WholeNumber, N: Numerator>(
+    ops: &[Op],
+    forms: &[Form],
+    placed: &Placed,
+    first: Stage,
+    position: &PixelPosition,
+    values: &mut [W],
+    spare: &mut [W],
+    numbers: &mut [N],
+    sums: &mut [N],
+)
+    requires kernel { IsKernel ops.now forms.now W.bits N.width }
+    requires there { IsPlaced ops.now forms.now placed.now }
+    requires first { first ≡ stage_before ops.now 1 }
+    requires block { (length values.old ≡ 256) × (length spare.old ≡ 256)
+        × (length numbers.old ≡ 256) × (length sums.old ≡ 256) }
+    requires bounded { IsBounded W.number N.value (stage_before ops.now 1)
+        (form_at forms.now 0) values.old numbers.old }
+    requires lanes { AreRuns W.number N.value ops.now 1 position.now
+        (form_at forms.now 0) values.old numbers.old }
+    ensures bounded { IsBounded W.number N.value (stage_before ops.now (length ops.now - 1))
+        (form_at forms.now (length ops.now - 2)) values.new numbers.new }
+    ensures holds { (frames : ℕ → List ℕ) (n : ℕ) → n ≤ 64
+        → IsState W.number N.value (stage_before ops.now 1)
+        (form_at forms.now 0) values.old numbers.old n
+        (λ i. values_before ops.now (frames i) position.now 1 i)
+        → IsState W.number N.value (stage_before ops.now (length ops.now - 1))
+        (form_at forms.now (length ops.now - 2)) values.new numbers.new n
+        (λ i. values_before ops.now (frames i) position.now (length ops.now - 1) i) }
+{
+    let at = placed.at;
+    plain_steps(
+        ops, forms, 1, at, first, position, values, spare, numbers, sums,
+    );
+    chain_steps(ops, forms, placed, position, values, sums, numbers);
+    let next = placed.chain.next;
+    let last = ops.len() - 1;
+    let stage = Stage::Typed(PixType::Rat);
+    plain_steps(
+        ops, forms, next, last, stage, position, values, spare, numbers, sums,
+    );
+}
+
+// The operations between the first and the last one.
+fn run_steps<W: WholeNumber, N: Numerator>(
+    ops: &[Op],
+    forms: &[Form],
+    chain: &Option<Placed>,
+    first: Stage,
+    position: &PixelPosition,
+    values: &mut [W],
+    spare: &mut [W],
+    numbers: &mut [N],
+    sums: &mut [N],
+)
+    requires kernel { IsKernel ops.now forms.now W.bits N.width }
+    requires chain { IfSome chain.now (λ placed. IsPlaced ops.now forms.now placed) }
+    requires some { 2 ≤ length ops.now }
+    requires first { first ≡ stage_before ops.now 1 }
+    requires block { (length values.old ≡ 256) × (length spare.old ≡ 256)
+        × (length numbers.old ≡ 256) × (length sums.old ≡ 256) }
+    requires bounded { IsBounded W.number N.value (stage_before ops.now 1)
+        (form_at forms.now 0) values.old numbers.old }
+    requires lanes { AreRuns W.number N.value ops.now 1 position.now
+        (form_at forms.now 0) values.old numbers.old }
+    ensures bounded { IsBounded W.number N.value (stage_before ops.now (length ops.now - 1))
+        (form_at forms.now (length ops.now - 2)) values.new numbers.new }
+    ensures holds { (frames : ℕ → List ℕ) (n : ℕ) → n ≤ 64
+        → IsState W.number N.value (stage_before ops.now 1)
+        (form_at forms.now 0) values.old numbers.old n
+        (λ i. values_before ops.now (frames i) position.now 1 i)
+        → IsState W.number N.value (stage_before ops.now (length ops.now - 1))
+        (form_at forms.now (length ops.now - 2)) values.new numbers.new n
+        (λ i. values_before ops.now (frames i) position.now (length ops.now - 1) i) }
+{
+    match chain {
+        Some(placed) => steps_around(
+            ops, forms, placed, first, position, values, spare, numbers, sums,
+        ),
+        None => {
+            let last = ops.len() - 1;
+            plain_steps(
+                ops, forms, 1, last, first, position, values, spare, numbers, sums,
+            );
+        }
     }
 }
 
@@ -199,6 +285,7 @@ fn hold_bytes(input: &Planes<'_>)
 pub fn run_block<W: WholeNumber, N: Numerator>(
     ops: &[Op],
     forms: &[Form],
+    chain: &Option<Placed>,
     input: &Planes<'_>,
     position: &PixelPosition,
     n: usize,
@@ -212,6 +299,7 @@ pub fn run_block<W: WholeNumber, N: Numerator>(
     fourth: &mut [u8],
 )
     requires kernel { IsKernel ops.now forms.now W.bits N.width }
+    requires chain { IfSome chain.now (λ placed. IsPlaced ops.now forms.now placed) }
     requires input { AreRows (op_at ops.now 0) position.now.width (rows_of input.now) }
     requires entries { length input.now.palette.now ≡ palette_length (op_at ops.now 0) }
     requires output { AreRows (last_op ops.now) position.now.width
@@ -233,7 +321,9 @@ pub fn run_block<W: WholeNumber, N: Numerator>(
     hold_bytes(input);
     let stage = read_first(&ops[0], input, position, n, values);
     clear_rest(n, values);
-    run_steps(ops, forms, stage, position, values, spare, numbers, sums);
+    run_steps(
+        ops, forms, chain, stage, position, values, spare, numbers, sums,
+    );
     write_last(
         &ops[ops.len() - 1],
         values,

@@ -13,6 +13,7 @@ ghost use Rattle.kernel_planes.specs.Planes.{AreRows, has_planes, palette_length
 ghost use Rattle.kernel_planes.specs.Planes.{row_length, row_list, rows_of};
 
 use crate::cut::{cut, row_lengths};
+use crate::moves::{moves_of, run_moves};
 use crate::row::run_blocks;
 use kernel_planes::{Planes, WholeNumber};
 use kernel_step::{Form, NumberWidth, Storage};
@@ -69,6 +70,12 @@ impl RowKernel {
             ≡ slice_index (run self.now (row_frame (rows_of input.now) input.now.palette.now)
             width 1 x 0 y) v }
     {
+        if let Some(moves) = moves_of(&self.ops) {
+            run_moves(
+                &self.ops, &moves, input, first, second, third, fourth, width, y,
+            );
+            return;
+        }
         match self.storage {
             Storage::Bytes => {
                 let mut values = [0u8; 256];

@@ -9,6 +9,7 @@ ghost use Rattle.kernel_planes.specs.Planes.{AreRows, palette_length, row_frame,
 ghost use Rattle.kernel_planes.specs.Planes.{rows_of};
 
 use crate::block::run_block;
+use kernel_affine::find_chain;
 use kernel_planes::{Planes, WholeNumber};
 use kernel_step::{Form, Numerator};
 use op_list::{Op, PixelPosition};
@@ -43,6 +44,7 @@ pub fn run_blocks<W: WholeNumber, N: Numerator>(
         ≡ slice_index (run ops.now (row_frame (rows_of input.now) input.now.palette.now)
         width 1 x 0 y) v }
 {
+    let chain = find_chain(ops, forms);
     for block in 0..width.div_ceil(64) {
         let start = block * 64;
         let position = PixelPosition {
@@ -54,8 +56,8 @@ pub fn run_blocks<W: WholeNumber, N: Numerator>(
         };
         let n = (width - start).min(64) as usize;
         run_block(
-            ops, forms, input, &position, n, values, spare, numbers, sums, first, second, third,
-            fourth,
+            ops, forms, &chain, input, &position, n, values, spare, numbers, sums, first, second,
+            third, fourth,
         );
     }
 }

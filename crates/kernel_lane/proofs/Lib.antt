@@ -1,3 +1,4 @@
 pub mod Distances
+pub mod Pixels
 pub mod Sixteens
 pub mod Turns

@@ -81,3 +81,29 @@ pub fn put_elements<T: Copy, R: Element<T>, const C: usize>(
         rule.put(to, start + i * C, values[at + i]);
     }
 }
+
+/// Every D-th element of `to`, beginning at `at`, becomes one of the n elements of `from` that stand
+/// C apart, beginning at `start`.
+#[inline(never)]
+pub fn move_elements<T: Copy, R: Element<T>, const C: usize, const D: usize>(
+    rule: R,
+    from: &[u8],
+    start: usize,
+    n: usize,
+    to: &mut [u8],
+    at: usize,
+)
+    requires step { 0 < D }
+    requires holds { R.holds }
+    requires fits { (k : ℕ) (x : T) → R.number x ≡ R.element from.now k → R.fits x }
+    requires elements { (i : ℕ) → i < n → (start + i * C + 1) * R.size ≤ length from.now }
+    requires room { (i : ℕ) → i < n → (at + i * D + 1) * R.size ≤ length to.old }
+    ensures set { (i : ℕ) → i < n
+        → R.element to.new (at + i * D) ≡ R.element from.now (start + i * C) }
+    ensures kept { (k : ℕ) → ((i : ℕ) → i < n → k ≢ at + i * D)
+        → R.element to.new k ≡ R.element to.old k }
+{
+    for i in 0..n {
+        rule.put(to, at + i * D, rule.taken(from, start + i * C));
+    }
+}

@@ -32,11 +32,14 @@ pub lane_place : (x i count e : ℕ) → x * count + e + i * count ≡ (x + i) *
 lane_place x i count e = omega arith
 
 -- elements of one place of a pixel are none of another
+pub place_apart : (x y count e t : ℕ) → e < count → t < count → t ≢ e → x * count + t ≢ y * count + e
+place_apart x y count e t here there differs same =
+    let both : (x ≡ y) × (t ≡ e) = same_from_place x t y e count there here same in
+    differs both.1
+
 pub lane_apart : (x i k count e t : ℕ) → e < count → t < count → t ≢ e → (x + i) * count + t ≢ x * count + e + k * count
 lane_apart x i k count e t here there differs same =
-    let both : (x + i ≡ x + k) × (t ≡ e) =
-    same_from_place (x + i) t (x + k) e count there here (omega (arith, same)) in
-    differs both.1
+    place_apart (x + i) (x + k) count e t here there differs (omega (arith, same))
 
 -- an element of another pixel is none of those of the n pixels from x on
 pub pixel_apart : (x n k count e i : ℕ) → e < count → i < n → (k < x * count) ⊎ ((x + n) * count ≤ k) → k ≢ x * count + e + i * count
@@ -112,6 +115,23 @@ element_past elem [] rows x v past = refl
 element_past elem (n ∷ planes) rows x v past =
     element_later elem n planes rows x v (omega (arith, past, sum-cons n planes))
     ∙ element_past elem planes (drop 1 rows) x (v - n) (omega (arith, past, sum-cons n planes))
+
+-- element e of plane p is that value of the pixel which has so many before it
+pub element_at : (elem : PixType) (planes : List ℕ) (rows : List (List ℕ)) (x p e : ℕ) → e < slice_index planes p
+    → row_element elem planes rows x (sum (take p planes) + e) ≡ element elem (row_at rows p) (x * slice_index planes p + e)
+element_at elem [] rows x zero e inside = absurd (omega (arith, inside))
+element_at elem [] rows x (suc p) e inside = absurd (omega (arith, inside))
+element_at elem (n ∷ planes) rows x zero e inside =
+    let first : sum (take 0 (n ∷ planes)) + e ≡ e = omega arith in
+    ap (row_element elem (n ∷ planes) rows x) first ∙ element_here elem n planes rows x e inside
+element_at elem (n ∷ planes) rows x (suc p) e inside =
+    let v = sum (take (suc p) (n ∷ planes)) + e in
+    let before : sum (take (suc p) (n ∷ planes)) ≡ n + sum (take p planes) = sum-cons n (take p planes) in
+    let rest : v - n ≡ sum (take p planes) + e = omega (arith, before) in
+    element_later elem n planes rows x v (omega (arith, before))
+    ∙ ap (row_element elem planes (drop 1 rows) x) rest
+    ∙ element_at elem planes (drop 1 rows) x p e inside
+    ∙ ap (λ r. element elem r (x * slice_index planes p + e)) (row_later rows p)
 
 -- what is said of each element of each plane is so of element v of the pixel
 pub by_plane : (elem : PixType) (planes : List ℕ) (rows : List (List ℕ)) (x v m : ℕ) → v < sum planes

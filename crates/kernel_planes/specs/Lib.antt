@@ -1,2 +1,3 @@
 pub mod Block
+pub mod Orders
 pub mod Planes

@@ -3,7 +3,10 @@
 
 mod element;
 mod gather;
+mod moves;
 mod palette;
+mod permute;
+mod place;
 mod planes;
 mod read;
 mod rest;
@@ -14,6 +17,7 @@ mod value;
 mod whole_number;
 mod write;
 
+pub use moves::move_row;
 pub use palette::read_palette;
 pub use planes::Planes;
 pub use read::read_block;

@@ -12,7 +12,10 @@ loop-v-preserved g c =
     ∙ c.loop-v.invariant u i d e less within)
     (c.chain_value.ensures.set i d e within) v below
 
-pub widen-requires-clause-fitting : goal.widen-requires-clause-fitting
-widen-requires-clause-fitting g c =
+pub widen_for-requires-clause-fitting : goal.widen_for-requires-clause-fitting
+widen_for-requires-clause-fitting g c =
     let ready = c.requires.ready in
     λ j i d some within. (ready.ready ready.whole ready.there.widens j i d some within).fits
+
+pub chain_value-requires-clause-wide : goal.chain_value-requires-clause-wide
+chain_value-requires-clause-wide g c = λ three. c.widen_for.ensures c.loop-v.v (omega arith) three

@@ -25,3 +25,6 @@ returns-in-Three-clause-set g c =
 
 pub returns-clause-set : goal.returns-clause-set
 returns-clause-set g c = λ i d e below. rw (plain c.args.unit c.ranges.unit) at (c.affine_value.ensures.set i d e below)
+
+pub wide_products-requires-clause-wide : goal.wide_products-requires-clause-wide
+wide_products-requires-clause-wide g c = c.requires.wide c.in-Three.is

@@ -140,7 +140,7 @@ returns-clause-stored g c =
     c.requires.kernel.typed some (c.requires.kernel.few 0)
     (λ v i d below within. ap g.W.WholeNumber.number (c.clear_rest.ensures.kept v i d below within)
     ∙ (rw first at c.read_first-stage.ensures.set) v i d below within) in
-    let state = c.run_steps.ensures.holds frame c.args.n (omega arith) start in
+    let state = c.run_steps.ensures.holds (λ i. frame) c.args.n (omega arith) start in
     let stored = rw same at c.write_last.ensures.stored in
     stored v i d below within
     ∙ state.whole (last_whole ops c.requires.kernel.typed c.requires.kernel.whole some) v i d

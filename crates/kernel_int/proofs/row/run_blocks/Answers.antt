@@ -8,9 +8,12 @@ use Rattle.kernel_planes.specs.Block.{position_at}
 use Rattle.kernel_step.specs.Forms.{last_op}
 use Rattle.kernel_planes.specs.Planes.{planes_of, elem_of}
 use Rattle.kernel_planes.specs.Planes.{row_element, row_frame, row_length, row_list, rows_of}
-use Rattle.kernel_step.proofs.Kernels.{last_counts, run_value, written_few}
+use Rattle.kernel_step.proofs.Kernels.{at_least_two, last_counts, run_value, written_few}
 use Rattle.kernel_planes.proofs.RowFrames.{all_sizes, row_of_frame, same_sizes}
 use Rattle.kernel_int.proofs.row.run_blocks.Goals as goal
+
+pub find_chain-chain-requires-clause-some : goal.find_chain-chain-requires-clause-some
+find_chain-chain-requires-clause-some g c = at_least_two c.args.ops.now c.requires.kernel.whole c.requires.kernel.typed
 
 pub loop-block-preserved : goal.loop-block-preserved
 loop-block-preserved g c =
