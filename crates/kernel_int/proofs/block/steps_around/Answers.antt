@@ -9,7 +9,7 @@ chain_steps-requires-clause-ready g c =
     let forms = c.args.forms.now in
     let at = c.args.placed.now.at in
     let lanes : AreRuns g.W.WholeNumber.number g.N.Numerator.value ops at c.args.position.now (form_at forms (at - 1))
-        c.plain_steps.new.values c.plain_steps.new.numbers = record {
+    c.plain_steps.new.values c.plain_steps.new.numbers = record {
       frames = c.requires.lanes.frames;
       bytes = c.requires.lanes.bytes;
       state = c.plain_steps.ensures.holds c.requires.lanes.frames 64 (omega arith) c.requires.lanes.state;
